@@ -2,18 +2,20 @@
 --
 --   split                       one order or the other
 --   and-left, and-right, both   the two sides of a test that is `true`
+--   and-false                   a test and one that fails
+--   passes, fails               what `if !f(x)` tells where f answers a test
 --   not-both                    two values of one test
 --   leb-same                    two tests that hold together are equal
 --
 -- Not here: laws of sums, `/` and `%` (native.Mathlib.Nat), and of single tests (borrow.Author.Tests). Assumes nothing.
 use mathlib.Core.Path.{_≡_, refl, sym, _∙_}
-use mathlib.Core.Bool.{Bool, true, false, _&&_}
+use mathlib.Core.Bool.{Bool, true, false, not, _&&_}
 use Prim.Native.Nat.{ℕ, _≤_, _<_}
 use native.Mathlib.Nat.{lt-of-not-le, not-le-of-lt}
 use native.Mathlib.Decide.{decLe}
 use native.Mathlib.Omega.{arith}
 use lib.Dec.{leb}
-use borrow.Author.Tests.{leb-true, leb-false, le-leb, lt-leb}
+use borrow.Author.Tests.{leb-true, leb-false, le-leb, lt-leb, not-true, not-false}
 
 pub split {ℓ} : {X : Type ℓ} (a b : ℕ) → (a ≤ b → X) → (b < a → X) → X
 split a b f g = elim (decLe a b) [ yes h ↦ f h | no h ↦ g (lt-of-not-le h) ]
@@ -29,6 +31,16 @@ and-right false false e = e
 
 pub both : (s t : Bool) → s ≡ true → t ≡ true → (s && t) ≡ true
 both s t e f = rw (e, f)
+
+pub and-false : (s : Bool) {t : Bool} → t ≡ false → (s && t) ≡ false
+and-false true e = e
+and-false false e = refl
+
+pub passes : {r t : Bool} → r ≡ t → not r ≡ false → t ≡ true
+passes {r} e h = sym e ∙ not-false r h
+
+pub fails : {r t : Bool} → r ≡ t → not r ≡ true → t ≡ false
+fails {r} e h = sym e ∙ not-true r h
 
 pub not-both : {t : Bool} → t ≡ true → t ≡ false → ⊥
 not-both e f = let z : _≡_ {A = ℕ} 0 1 = cc in omega arith

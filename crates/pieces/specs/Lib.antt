@@ -1,0 +1,3 @@
+-- What the contracts of `pieces` cite, and what is proved of it.
+pub mod Pieces
+pub mod Words

@@ -1,0 +1,148 @@
+// A piece with its status, and the words of a lent table that say one. This crate alone knows how many words an entry has and which is which.
+//
+//     word    | i * 3    | i * 3 + 1 | i * 3 + 2
+//     entry i | address  | size      | kind
+ghost use mathlib.Core.Path.{_≡_};
+ghost use mathlib.Core.List.{[], _∷_};
+ghost use Prim.Native.Nat.{_+_, _*_, _≤_};
+ghost use lib.ListN.{length};
+ghost use Rattle.pieces.specs.Pieces.{classOf, freeb, sameClass, kindOf, kindb, statusOf};
+ghost use Rattle.pieces.specs.Words.{entryWords, kindAt, entryAt, laid};
+
+pub enum Class {
+    SmallMetadata,
+    SmallRaw,
+    Large,
+}
+
+pub enum Status {
+    Live(Class),
+    Free(Class),
+}
+
+pub struct Piece {
+    pub address: u64,
+    pub size: u64,
+    pub status: Status,
+}
+
+pub const ENTRY_WORDS: usize = 3;
+
+const SIZE_WORD: usize = 1;
+
+const KIND_WORD: usize = 2;
+
+pub fn class_of(status: Status) -> Class
+    ensures { λ r. ⌜ r ≡ classOf status ⌝ }
+{
+    match status {
+        Status::Live(c) => c,
+        Status::Free(c) => c,
+    }
+}
+
+pub fn is_free(status: Status) -> bool
+    ensures { λ r. ⌜ r ≡ freeb status ⌝ }
+{
+    match status {
+        Status::Live(_) => false,
+        Status::Free(_) => true,
+    }
+}
+
+pub fn same_class(a: Class, b: Class) -> bool
+    ensures { λ r. ⌜ r ≡ sameClass a b ⌝ }
+{
+    match a {
+        Class::SmallMetadata => match b {
+            Class::SmallMetadata => true,
+            Class::SmallRaw => false,
+            Class::Large => false,
+        },
+        Class::SmallRaw => match b {
+            Class::SmallMetadata => false,
+            Class::SmallRaw => true,
+            Class::Large => false,
+        },
+        Class::Large => match b {
+            Class::SmallMetadata => false,
+            Class::SmallRaw => false,
+            Class::Large => true,
+        },
+    }
+}
+
+// The kind, 1 to 6, of a status.
+pub fn kind_of(status: Status) -> u64
+    ensures { λ r. ⌜ r ≡ kindOf status ⌝ }
+{
+    match status {
+        Status::Live(c) => match c {
+            Class::SmallMetadata => 1,
+            Class::SmallRaw => 2,
+            Class::Large => 3,
+        },
+        Status::Free(c) => match c {
+            Class::SmallMetadata => 4,
+            Class::SmallRaw => 5,
+            Class::Large => 6,
+        },
+    }
+}
+
+// Whether a word is a kind.
+pub fn is_kind(word: u64) -> bool
+    ensures { λ r. ⌜ r ≡ kindb word ⌝ }
+{
+    if word < 1 {
+        return false;
+    }
+    word <= 6
+}
+
+// The status of a kind. A word that is no kind, which no sound table has, is read as 6.
+pub fn status_of(kind: u64) -> Status
+    ensures { λ r. ⌜ r ≡ statusOf kind ⌝ }
+{
+    match kind {
+        1 => Status::Live(Class::SmallMetadata),
+        2 => Status::Live(Class::SmallRaw),
+        3 => Status::Live(Class::Large),
+        4 => Status::Free(Class::SmallMetadata),
+        5 => Status::Free(Class::SmallRaw),
+        _ => Status::Free(Class::Large),
+    }
+}
+
+// The word that says entry i's kind.
+pub fn kind_at(table: &[u64], i: usize) -> u64
+    requires { ⌜ (i + 1) * entryWords ≤ length (now table) ⌝ }
+    ensures { λ r. ⌜ r ≡ kindAt (now (table .entry)) i ⌝ }
+{
+    table[i * ENTRY_WORDS + KIND_WORD]
+}
+
+// Entry i.
+pub fn piece_at(table: &[u64], i: usize) -> Piece
+    requires { ⌜ (i + 1) * entryWords ≤ length (now table) ⌝ }
+    ensures { λ r. ⌜ r ≡ entryAt (now (table .entry)) i ⌝ }
+{
+    let at = i * ENTRY_WORDS;
+    Piece {
+        address: table[at],
+        size: table[at + SIZE_WORD],
+        status: status_of(table[at + KIND_WORD]),
+    }
+}
+
+// Entry i becomes this piece; every other word stays.
+pub fn put(table: &mut [u64], i: usize, piece: Piece)
+    requires { ⌜ (i + 1) * entryWords ≤ length (now table) ⌝ }
+    ensures { λ _. ⌜ now (table .exit) ≡ laid (now (table .entry)) i (piece ∷ []) ⌝ }
+{
+    let at = i * ENTRY_WORDS;
+    let status = piece.status;
+    table[at] = piece.address;
+    table[at + SIZE_WORD] = piece.size;
+    table[at + KIND_WORD] = kind_of(status);
+}

@@ -1,0 +1,284 @@
+-- Laws of the walk: the tests by what is left of the page are those of `table`, and one turn of the loop is one step of the local test.
+--
+-- In this order: the tests by what is left; one step; a turn of the loop, for the kinds and the chain together; the words behind;
+-- the ranges; one entry, rule by rule; the whole test, part by part.
+--
+-- Assumes nothing.
+use mathlib.Core.Path.{_≡_, refl, sym, ap, _∙_}
+use mathlib.Core.Bool.{Bool, true, false, cond, not, _&&_}
+use mathlib.Core.List.{List, [], _∷_}
+use Prim.Native.Nat.{ℕ, zero, suc, _+_, _-_, _*_, _%_, _≤_, _<_}
+use native.Mathlib.Omega.{arith}
+use native.Mathlib.Numerals.{add-one}
+use lib.Dec.{leb, ltb, eqb}
+use lib.ListN.{length, getD, drop, drop-of-length-le}
+use lib.Seq.{drop-cons}
+use borrow.Author.Tests.{le-leb, lt-leb, lt-ltb, le-ltb, eq-eqb, ne-eqb}
+use Rattle.pages.specs.Pages.{pageSizeb, Border, borderb, down, left}
+use Rattle.pages.proofs.Numbers.{split, leb-same, and-false}
+use Rattle.pages.proofs.PageLaws.{decBorder, true-border, false-border, left-down, left-of, left-full, left-within, left-exact, left-beyond}
+use Rattle.pieces.specs.declared.Class.{Class}
+use Rattle.pieces.specs.declared.Class.the-variants.{SmallMetadata, SmallRaw, Large}
+use Rattle.pieces.specs.declared.Status.{Status}
+use Rattle.pieces.specs.declared.Status.the-variants.{Live, Free}
+use Rattle.pieces.specs.declared.Piece.{Piece}
+use Rattle.pieces.specs.Pieces.{classOf, freeb, sameClass, kindb}
+use Rattle.pieces.specs.Words.{entryWords, kindAt, entryAt, entries}
+use Rattle.pieces.proofs.WordLaws.{entries-next, entries-none}
+use Rattle.table.specs.Sound.{largestLimit, capacity}
+use Rattle.table.specs.Local.{tableLengthb, rangesb, withinb, shapeb, largeFreeb, besideb, cutb, entryb, noneb, chainb, kindsb, zerosb, localb}
+use Rattle.table.proofs.LocalLaws.{entry-room}
+use Rattle.sound.specs.Walk.{withinLeft, largeLeft, shapeByLeft, besideByLeft, leftBehind, walkAt, stepped}
+use Rattle.sound.specs.declared.walk.Walk.{Walk}
+use Rattle.sound.specs.declared.walk.Step.the-variants.{On, Broken}
+
+-- ---- the tests of one entry, as the code makes them
+
+pub within-whole : (P l z : ℕ) → P ≤ z → withinLeft P l z ≡ false
+within-whole P l z h = rw (le-ltb z P h)
+
+pub within-under : (P l z : ℕ) → z < P → withinLeft P l z ≡ leb z l
+within-under P l z h = rw (lt-ltb z P h)
+
+pub large-on : (P l z : ℕ) → l ≡ P → largeLeft P l z ≡ leb P z
+large-on P l z h = rw (eq-eqb l P h)
+
+pub large-off : (P l z : ℕ) → (l ≡ P → ⊥) → largeLeft P l z ≡ false
+large-off P l z h = rw (ne-eqb l P h)
+
+pub beside-on : (P l : ℕ) (s t : Status) → l ≡ P → besideByLeft P l s t ≡ not (largeFreeb s && largeFreeb t)
+unfolding besideByLeft
+beside-on P l s t h = rw (eq-eqb l P h)
+
+pub beside-off : (P l : ℕ) (s t : Status) → (l ≡ P → ⊥) → besideByLeft P l s t ≡ (sameClass (classOf s) (classOf t) && not (freeb s && freeb t))
+unfolding besideByLeft
+beside-off P l s t h = rw (ne-eqb l P h)
+
+pub behind-within : (P l z : ℕ) → z < l → leftBehind P l z ≡ l - z
+unfolding leftBehind
+behind-within P l z h = rw (lt-ltb z l h)
+
+pub behind-exact : (P l z : ℕ) → z ≡ l → leftBehind P l z ≡ P
+unfolding leftBehind
+behind-exact P l z h = rw (le-ltb z l (omega arith), eq-eqb z l h)
+
+pub behind-beyond : (P l z : ℕ) → l ≤ z → (z ≡ l → ⊥) → leftBehind P l z ≡ P - (z - l) % P
+unfolding leftBehind
+behind-beyond P l z h ne = rw (le-ltb z l h, ne-eqb z l ne)
+
+-- ---- they are those of the address
+
+module _ (P : ℕ) (pos : 0 < P) (a l : ℕ) (is : l ≡ left P a) where
+  within-left : (z : ℕ) → withinLeft P l z ≡ withinb P a z
+  within-left z =
+      let e : leb z l ≡ leb (a + z) (down P a + P) =
+      leb-same z l (a + z) (down P a + P) (λ h. omega (arith, left-down P pos a)) (λ h. omega (arith, left-down P pos a)) in
+      rw e
+
+  border-left : eqb l P ≡ borderb P a
+  border-left =
+      elim (decBorder P a) [
+        | yes b ↦ eq-eqb l P (is ∙ left-of P pos b) ∙ sym (true-border b)
+        | no nb ↦ ne-eqb l P (λ e. nb (left-full P pos (sym is ∙ e))) ∙ sym (false-border P a nb)
+      ]
+
+  pub shape-left : (t : Status) (z : ℕ) → shapeByLeft P l t z ≡ shapeb P t a z
+  unfolding shapeByLeft shapeb
+  shape-left (Live SmallMetadata) z = within-left z
+  shape-left (Live SmallRaw) z = within-left z
+  shape-left (Live Large) z = rw border-left
+  shape-left (Free SmallMetadata) z = within-left z
+  shape-left (Free SmallRaw) z = within-left z
+  shape-left (Free Large) z = refl
+
+  pub beside-left : (s t : Status) → besideByLeft P l s t ≡ besideb P s a t
+  unfolding besideByLeft besideb
+  beside-left s t = rw border-left
+
+  pub left-behind : (z : ℕ) → leftBehind P l z ≡ left P (a + z)
+  left-behind z =
+      split l z
+      (λ h. split z l
+      (λ k. let e : z ≡ l = omega arith in behind-exact P l z e ∙ sym (left-exact P pos a z (e ∙ is)))
+      (λ k. behind-beyond P l z h (λ e. omega arith) ∙ sym (rw (← is) at (left-beyond P pos a z (omega arith)))))
+      (λ h. behind-within P l z h ∙ sym (rw (← is) at (left-within P pos a z (omega arith))))
+
+-- ---- one step
+
+pub stepped-on : (P E : ℕ) (v : Walk) (x : Piece) (last : Bool) → entryb P E (v .status) (v .at) x last ≡ true
+    → stepped P E v x last ≡ On (walkAt P (v .at + x .size) (x .status))
+unfolding stepped
+stepped-on P E v x last h = rw h
+
+pub stepped-broken : (P E : ℕ) (v : Walk) (x : Piece) (last : Bool) → entryb P E (v .status) (v .at) x last ≡ false → stepped P E v x last ≡ Broken
+unfolding stepped
+stepped-broken P E v x last h = rw h
+
+record Went (P E : ℕ) (v : Walk) (x : Piece) (last : Bool) (next : Walk) : Type 0 where
+  holds : entryb P E (v .status) (v .at) x last ≡ true
+  is : next ≡ walkAt P (v .at + x .size) (x .status)
+
+went : (P E : ℕ) (v : Walk) (x : Piece) (last : Bool) (next : Walk) → stepped P E v x last ≡ On next → Went P E v x last next
+unfolding stepped
+went P E v x last next e = go (entryb P E (v .status) (v .at) x last) refl e
+  where
+    go : (t : Bool) → entryb P E (v .status) (v .at) x last ≡ t → cond t (On (walkAt P (v .at + x .size) (x .status))) Broken ≡ On next
+        → Went P E v x last next
+    go true h q = record { holds = h; is = cc }
+    go false h q = let z : _≡_ {A = ℕ} 0 1 = cc in absurd (omega arith)
+
+broke : (P E : ℕ) (v : Walk) (x : Piece) (last : Bool) → stepped P E v x last ≡ Broken → entryb P E (v .status) (v .at) x last ≡ false
+unfolding stepped
+broke P E v x last e = go (entryb P E (v .status) (v .at) x last) refl e
+  where
+    go : (t : Bool) → entryb P E (v .status) (v .at) x last ≡ t → cond t (On (walkAt P (v .at + x .size) (x .status))) Broken ≡ Broken
+        → entryb P E (v .status) (v .at) x last ≡ false
+    go true h q = let z : _≡_ {A = ℕ} 0 1 = cc in absurd (omega arith)
+    go false h q = h
+
+-- ---- a turn of the loop
+
+last-entry : (w : List ℕ) (n i : ℕ) → i < n → noneb (entries w (i + 1) (n - (i + 1))) ≡ eqb (i + 1) n
+last-entry w n i h =
+    split n (i + 1)
+    (λ l. rw (entries-none w n (i + 1) l, eq-eqb (i + 1) n (omega arith)))
+    (λ l. rw (entries-next w n (i + 1) l, ne-eqb (i + 1) n (λ e. omega arith)))
+
+-- what is to be tested from entry i on, behind an entry of status s that ends at a
+abbrev pub rest : ℕ → ℕ → List ℕ → ℕ → ℕ → Status → ℕ → Bool
+rest P E w n i s a = kindsb w i (n - i) && chainb P E s a (entries w i (n - i))
+
+module _ (P E : ℕ) (w : List ℕ) (n i : ℕ) (s : Status) (a : ℕ) where
+  kinds-next : i < n → kindsb w i (n - i) ≡ (kindb (kindAt w i) && kindsb w (i + 1) (n - (i + 1)))
+  unfolding kindsb
+  kinds-next h = let e : n - i ≡ suc (n - (i + 1)) = omega arith in rw (e, add-one i)
+
+  chain-next : i < n → chainb P E s a (entries w i (n - i))
+      ≡ (entryb P E s a (entryAt w i) (eqb (i + 1) n) && chainb P E (entryAt w i .status) (a + entryAt w i .size) (entries w (i + 1) (n - (i + 1))))
+  unfolding chainb
+  chain-next h = rw (entries-next w n i h, last-entry w n i h)
+
+  pub rest-next : i < n → kindb (kindAt w i) ≡ true → entryb P E s a (entryAt w i) (eqb (i + 1) n) ≡ true
+      → rest P E w n i s a ≡ rest P E w n (i + 1) (entryAt w i .status) (a + entryAt w i .size)
+  rest-next h k e = rw (kinds-next h, chain-next h, k, e)
+
+  pub rest-no-kind : i < n → kindb (kindAt w i) ≡ false → rest P E w n i s a ≡ false
+  rest-no-kind h k = rw (kinds-next h, k)
+
+  pub rest-broken : i < n → entryb P E s a (entryAt w i) (eqb (i + 1) n) ≡ false → rest P E w n i s a ≡ false
+  rest-broken h e = and-false (kindsb w i (n - i)) (chain-next h ∙ rw e)
+
+  pub rest-end : n ≤ i → rest P E w n i s a ≡ eqb a E
+  unfolding kindsb chainb
+  rest-end h = let e : n - i ≡ 0 = omega arith in rw (entries-none w n i h, e)
+
+pub rest-all : (P E : ℕ) (w : List ℕ) (n : ℕ) (s : Status) (a : ℕ) → rest P E w n 0 s a ≡ (kindsb w 0 n && chainb P E s a (entries w 0 n))
+rest-all P E w n s a = let e : n - 0 ≡ n = omega arith in rw e
+
+-- a turn that goes on, and one that stops
+pub record Turn (P E : ℕ) (w : List ℕ) (n i : ℕ) (v next : Walk) : Type 0 where
+  pub within : next .at ≤ E
+  pub left-is : next .left ≡ left P (next .at)
+  pub same : rest P E w n i (v .status) (v .at) ≡ rest P E w n (i + 1) (next .status) (next .at)
+
+pub turn : (P E : ℕ) (w : List ℕ) (n i : ℕ) (v : Walk) (x : Piece) (next : Walk) → i < n → kindb (kindAt w i) ≡ true → x ≡ entryAt w i
+    → stepped P E v x (eqb (i + 1) n) ≡ On next → Turn P E w n i v next
+turn P E w n i v x next h k is e =
+    let g : Went P E v x (eqb (i + 1) n) next = went P E v x (eqb (i + 1) n) next e in
+    let f : entryb P E (v .status) (v .at) (entryAt w i) (eqb (i + 1) n) ≡ true = rw is at (g .holds) in
+    let at-is : next .at ≡ v .at + x .size = ap (λ (u : Walk). u .at) (g .is) in
+    let status-is : next .status ≡ x .status = ap (λ (u : Walk). u .status) (g .is) in
+    record {
+      within = omega (arith, entry-room P E (v .status) (v .at) x (eqb (i + 1) n) (g .holds));
+      left-is = ap (λ (u : Walk). u .left) (g .is) ∙ ap (left P) (sym at-is);
+      same = rest-next P E w n i (v .status) (v .at) h k f
+          ∙ (ap (λ (u : Piece). rest P E w n (i + 1) (u .status) (v .at + u .size)) (sym is)
+          ∙ (ap (λ (t : Status). rest P E w n (i + 1) t (v .at + x .size)) (sym status-is) ∙ ap (rest P E w n (i + 1) (next .status)) (sym at-is)));
+    }
+
+pub turn-broken : (P E : ℕ) (w : List ℕ) (n i : ℕ) (v : Walk) (x : Piece) → i < n → x ≡ entryAt w i → stepped P E v x (eqb (i + 1) n) ≡ Broken
+    → rest P E w n i (v .status) (v .at) ≡ false
+turn-broken P E w n i v x h is e =
+    let f : entryb P E (v .status) (v .at) (entryAt w i) (eqb (i + 1) n) ≡ false = rw is at (broke P E v x (eqb (i + 1) n) e) in
+    rest-broken P E w n i (v .status) (v .at) h f
+
+-- ---- the words behind
+
+pub zeros-next : (w : List ℕ) (i : ℕ) → i < length w → getD w i 0 ≡ 0 → zerosb (drop i w) ≡ zerosb (drop (i + 1) w)
+unfolding zerosb
+zeros-next w i lt e = rw (add-one, drop-cons w i 0 lt, e)
+
+pub zeros-stop : (w : List ℕ) (i : ℕ) → i < length w → (getD w i 0 ≡ 0 → ⊥) → zerosb (drop i w) ≡ false
+unfolding zerosb
+zeros-stop w i lt ne = rw (drop-cons w i 0 lt, ne-eqb _ 0 ne)
+
+pub zeros-end : (w : List ℕ) (i : ℕ) → length w ≤ i → zerosb (drop i w) ≡ true
+unfolding zerosb
+zeros-end w i le = rw (drop-of-length-le w {i = i} le)
+
+-- ---- the ranges, up to the first that fails
+
+module _ (P M E n len : ℕ) where
+  pub ranges-page : pageSizeb P ≡ false → rangesb P M E n len ≡ false
+  unfolding rangesb
+  ranges-page e = rw e
+
+  pub ranges-limit-least : pageSizeb P ≡ true → M < P → rangesb P M E n len ≡ false
+  unfolding rangesb
+  ranges-limit-least e1 h = rw (e1, lt-leb P M h)
+
+  pub ranges-limit-largest : pageSizeb P ≡ true → P ≤ M → largestLimit < M → rangesb P M E n len ≡ false
+  unfolding rangesb
+  ranges-limit-largest e1 h2 h = rw (e1, le-leb P M h2, lt-leb M largestLimit h)
+
+  pub ranges-end-border : pageSizeb P ≡ true → P ≤ M → M ≤ largestLimit → borderb P E ≡ false → rangesb P M E n len ≡ false
+  unfolding rangesb
+  ranges-end-border e1 h2 h3 e = rw (e1, le-leb P M h2, le-leb M largestLimit h3, e)
+
+  pub ranges-end-limit : pageSizeb P ≡ true → P ≤ M → M ≤ largestLimit → borderb P E ≡ true → M < E → rangesb P M E n len ≡ false
+  unfolding rangesb
+  ranges-end-limit e1 h2 h3 e4 h = rw (e1, le-leb P M h2, le-leb M largestLimit h3, e4, lt-leb E M h)
+
+  -- what the slice's length has still to say
+  pub ranges-slice : pageSizeb P ≡ true → P ≤ M → M ≤ largestLimit → borderb P E ≡ true → E ≤ M
+      → rangesb P M E n len ≡ (tableLengthb len && leb n (capacity len))
+  unfolding rangesb
+  ranges-slice e1 h2 h3 e4 h5 = rw (e1, le-leb P M h2, le-leb M largestLimit h3, e4, le-leb E M h5)
+
+-- ---- one entry, up to the first rule that fails
+
+module _ (P E : ℕ) (s : Status) (a : ℕ) (x : Piece) (last : Bool) where
+  pub entry-elsewhere : (x .address ≡ a → ⊥) → entryb P E s a x last ≡ false
+  unfolding entryb
+  entry-elsewhere h = rw (ne-eqb (x .address) a h)
+
+  pub entry-empty : x .address ≡ a → x .size < 1 → entryb P E s a x last ≡ false
+  unfolding entryb
+  entry-empty h1 h = rw (eq-eqb (x .address) a h1, lt-leb 1 (x .size) h)
+
+  pub entry-beyond : x .address ≡ a → 1 ≤ x .size → E - a < x .size → entryb P E s a x last ≡ false
+  unfolding entryb
+  entry-beyond h1 h2 h = rw (eq-eqb (x .address) a h1, le-leb 1 (x .size) h2, lt-leb (a + x .size) E (omega arith))
+
+  -- what is still to be tested of an entry that starts here, has a byte and ends within the file
+  pub entry-here : x .address ≡ a → 1 ≤ x .size → a ≤ E → x .size ≤ E - a
+      → entryb P E s a x last ≡ (shapeb P (x .status) a (x .size) && (besideb P s a (x .status) && cutb P (x .status) (x .size) last))
+  unfolding entryb
+  entry-here h1 h2 h3 h4 = rw (eq-eqb (x .address) a h1, le-leb 1 (x .size) h2, le-leb (a + x .size) E (omega arith))
+
+-- ---- the whole test, part by part
+
+module _ (P M E n : ℕ) (w : List ℕ) where
+  pub local-ranges : rangesb P M E n (length w) ≡ false → localb P M E n w ≡ false
+  unfolding localb
+  local-ranges h = rw h
+
+  pub local-entries : rangesb P M E n (length w) ≡ true → (kindsb w 0 n && chainb P E (Live Large) 0 (entries w 0 n)) ≡ false
+      → localb P M E n w ≡ false
+  unfolding localb
+  local-entries h e = rw (h, e)
+
+  pub local-zeros : rangesb P M E n (length w) ≡ true → (kindsb w 0 n && chainb P E (Live Large) 0 (entries w 0 n)) ≡ true
+      → localb P M E n w ≡ zerosb (drop (n * entryWords) w)
+  unfolding localb
+  local-zeros h e = rw (h, e)

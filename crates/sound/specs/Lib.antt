@@ -1,0 +1,2 @@
+-- What the contracts of `sound` cite beside the local test of `table`.
+pub mod Walk

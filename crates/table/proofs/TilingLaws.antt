@@ -1,0 +1,74 @@
+-- Entries that tile the file hold each of its bytes exactly once.
+--
+--   covered       a byte from the first entry's start to the end lies in one of the entries, and its place among them
+--   in-order      an entry further on starts where an earlier one ends, or behind it
+--   below-end     no entry reaches beyond the end
+--
+-- Assumes nothing.
+use mathlib.Core.Path.{_≡_, refl, sym, ap, _∙_}
+use mathlib.Core.List.{List, [], _∷_}
+use Prim.Native.Nat.{ℕ, zero, suc, _+_, _≤_, _<_}
+use native.Mathlib.Omega.{arith}
+use native.Mathlib.Nat.{zero-add}
+use lib.ListN.{length, getD}
+use Rattle.pages.proofs.Numbers.{split}
+use Rattle.pieces.specs.declared.Class.the-variants.{Large}
+use Rattle.pieces.specs.declared.Status.{Status}
+use Rattle.pieces.specs.declared.Status.the-variants.{Free}
+use Rattle.pieces.specs.declared.Piece.{Piece}
+use Rattle.pieces.specs.Pieces.{piece, behind}
+use Rattle.pieces.specs.Words.{entryAt, entries}
+use Rattle.table.specs.Sound.{Tiles, tiled, tile}
+use Rattle.table.specs.Theorems.{Holds, OneEntry}
+
+-- what stands past the last entry, which no byte lies in
+abbrev pub nothing : Piece
+nothing = piece 0 0 (Free Large)
+
+pub entries-at : (w : List ℕ) (i k j : ℕ) → j < k → getD (entries w i k) j nothing ≡ entryAt w (i + j)
+unfolding entries
+entries-at w i zero j h = absurd (omega arith)
+entries-at w i (suc k) zero h = let e : i + 0 ≡ i = omega arith in rw e
+entries-at w i (suc k) (suc j) h = let e : i + suc j ≡ suc i + j = omega arith in rw e (entries-at w (suc i) k j (omega arith))
+
+pub tiles-from : {E a : ℕ} {es : List Piece} → Tiles E a es → a ≤ E
+tiles-from (tiled e) = omega arith
+tiles-from (tile r) = omega (arith, tiles-from r)
+
+pub record Covered (es : List Piece) (v : ℕ) : Type 0 where
+  pub place : ℕ
+  pub among : place < length es
+  pub holds : Holds (getD es place nothing) v
+
+later : {x : Piece} {es : List Piece} {v : ℕ} → Covered es v → Covered (x ∷ es) v
+later c = record { place = suc (c .place); among = omega (arith, c .among); holds = c .holds }
+
+pub covered : {E a : ℕ} {es : List Piece} (v : ℕ) → Tiles E a es → a ≤ v → v < E → Covered es v
+covered v (tiled e) l h = absurd (omega arith)
+covered v (tile {a = a} {z = z} r) l h =
+    split (a + z) v (λ g. later (covered v r g h))
+    (λ g. record { place = 0; among = omega arith; holds = record { from = l; to = g } })
+
+starts : {E a : ℕ} {es : List Piece} → Tiles E a es → (i : ℕ) → i < length es → a ≤ getD es i nothing .address
+starts (tiled e) i h = absurd (omega arith)
+starts (tile r) zero h = omega arith
+starts (tile r) (suc i) h = omega (arith, starts r i (omega arith))
+
+pub in-order : {E a : ℕ} {es : List Piece} → Tiles E a es → (i j : ℕ) → i < j → j < length es → behind (getD es i nothing) ≤ getD es j nothing .address
+in-order (tiled e) i j l h = absurd (omega arith)
+in-order (tile r) zero zero l h = absurd (omega arith)
+in-order (tile r) zero (suc j) l h = starts r j (omega arith)
+in-order (tile r) (suc i) zero l h = absurd (omega arith)
+in-order (tile r) (suc i) (suc j) l h = in-order r i j (omega arith) (omega arith)
+
+pub below-end : {E a : ℕ} {es : List Piece} → Tiles E a es → (i : ℕ) → i < length es → behind (getD es i nothing) ≤ E
+below-end (tiled e) i h = absurd (omega arith)
+below-end (tile r) zero h = tiles-from r
+below-end (tile r) (suc i) h = below-end r i (omega arith)
+
+pub alone : {E a : ℕ} {es : List Piece} → Tiles E a es → (i j v : ℕ) → i < length es → j < length es
+    → Holds (getD es i nothing) v → Holds (getD es j nothing) v → i ≡ j
+alone t i j v hi hj u r =
+    split i j
+    (λ l. split j i (λ m. omega arith) (λ m. absurd (omega (arith, in-order t i j m hj, u .to, r .from))))
+    (λ l. absurd (omega (arith, in-order t j i l hi, r .to, u .from)))
