@@ -170,10 +170,10 @@ pub laid-one : (w : List ℕ) (i : ℕ) (x : Piece) → (i + 1) * entryWords ≤
     → set (set (set w (i * entryWords) (x .address)) (i * entryWords + 1) (x .size)) (i * entryWords + 2) (kindOf (x .status)) ≡ laid w i (x ∷ [])
 unfolding laid words
 laid-one w i x h =
-    let e : (i + 1) * entryWords ≡ i * entryWords + 3 = omega arith in
+    let e : (i + 1) * entryWords ≡ i * entryWords + entryWords = omega arith in
     let v : List ℕ = x .address ∷ x .size ∷ kindOf (x .status) ∷ [] in
     rw (add-one (i * entryWords), add-two (i * entryWords))
-    (sets-eq v w (i * entryWords) (omega arith) ∙ rw e (append-assoc (take (i * entryWords) w) v (drop (i * entryWords + 3) w)))
+    (sets-eq v w (i * entryWords) (omega arith) ∙ rw e (append-assoc (take (i * entryWords) w) v (drop (i * entryWords + entryWords) w)))
 
 pub laid-none : (w : List ℕ) (i : ℕ) → laid w i [] ≡ w
 unfolding laid words

@@ -9,10 +9,12 @@
 --   kindOf s           the kind of a status, 1 to 6
 --   Kind k             k is a kind; kindb k is the test
 --   statusOf k         the status of a kind; a word that is no kind, which no sound table has, reads as 6
+--   EntryIs es i x     entry i of es is x
 --
 -- Assumes nothing. Laws are in proofs/PieceLaws.antt.
 use mathlib.Core.Bool.{Bool, true, false, cond, _&&_}
-use Prim.Native.Nat.{ℕ, _+_, _≤_}
+use mathlib.Core.List.{List, _∷_}
+use Prim.Native.Nat.{ℕ, suc, _+_, _≤_}
 use lib.Dec.{leb, eqb}
 use Rattle.pieces.specs.declared.Class.{Class}
 use Rattle.pieces.specs.declared.Class.the-variants.{SmallMetadata, SmallRaw, Large}
@@ -79,3 +81,7 @@ statusOf k =
     (cond (eqb k 3) (Live Large)
     (cond (eqb k 4) (Free SmallMetadata)
     (cond (eqb k 5) (Free SmallRaw) (Free Large)))))
+
+pub data EntryIs : List Piece → ℕ → Piece → Type 0 where
+  entry-here : {x : Piece} {es : List Piece} → EntryIs (x ∷ es) 0 x
+  entry-later : {x y : Piece} {es : List Piece} {i : ℕ} → EntryIs es i x → EntryIs (y ∷ es) (suc i) x

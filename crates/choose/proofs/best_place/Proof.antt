@@ -1,0 +1,89 @@
+-- `choose::best_place` meets its contract: each turn hands the best so far on as the definition does, at the end
+-- nothing is left to look at, and at an exact fit nothing that is left can beat it.
+-- Assumes nothing.
+use Prim.Native.Nat.{_≤_, _-_}
+use mathlib.Core.Bool.{Bool, true}
+use mathlib.Core.Logic.{⊎-elim}
+use mathlib.Core.Path.{_≡_, sym, _∙_}
+use native.Mathlib.Nat.{sub-zero}
+use borrow.Author.Needs.{needs}
+use Rattle.choose.proofs.ChooseLaws.{best-of-better, best-of-larger, best-of-misfit, best-next, best-end, best-exact, fits-least}
+use Rattle.choose.specs.Choose.{fitsIn, bestOf, best}
+use Rattle.choose.specs.declared.Place.the-variants.{At, Nothing}
+use Rattle.pieces.specs.declared.Piece.{Piece}
+use Rattle.pieces.specs.Words.{entries}
+use Rattle.choose.proofs.best_place.Statement.{statement}
+use Rattle.choose.proofs.best_place.Tie as tie
+
+abbrev Inv-walk : tie.InvT-walk
+Inv-walk p class s n table held₀ i₀ held i =
+    (i ≤ n)
+    × (best (fitsIn p class s) i held (entries table i (n - i)) ≡ best (fitsIn p class s) 0 Nothing (entries table 0 n))
+
+abbrev μ-walk : tie.MeasureT-walk
+μ-walk p class s n table held₀ i₀ held i = n - i
+
+walk-holds : tie.Need-walk-holds Inv-walk μ-walk
+walk-holds c = (search needs, simp sub-zero)
+
+piece-at-requires : tie.Need-piece-at-requires Inv-walk μ-walk
+piece-at-requires c κs = search needs
+
+beats-requires : tie.Need-beats-requires Inv-walk μ-walk
+beats-requires c κs = search needs
+
+fits-requires : tie.Need-fits-requires Inv-walk μ-walk
+fits-requires c κs = search needs
+
+add-i : tie.Need-add-i Inv-walk μ-walk
+add-i c = search needs
+
+walk-less : tie.Need-walk-less Inv-walk μ-walk
+walk-less c = search needs
+
+walk-again : tie.Need-walk-again Inv-walk μ-walk
+walk-again c =
+    let a = c .before .before .before .before .before .before .args in
+    let k = c .before .before .before .before .walk in
+    let in-table = c .before .before .before .walk-test .left in
+    let read = c .before .before .piece-at in
+    let beat = sym (c .before .beats .ensures) in
+    let to : bestOf (fitsIn (a .p) (a .class) (a .s)) (k .i) (k .held) (read .result) ≡ c .if1 .held =
+    ⊎-elim (λ w. best-of-better _ _ _ _ (sym (w .1 .ensures) ∙ w .2 .taken) (beat ∙ w .0 .taken) ∙ sym (w .5))
+    (⊎-elim (λ w. best-of-misfit _ _ _ _ (sym (w .1 .ensures) ∙ w .2 .left) ∙ sym (w .3))
+    (λ w. best-of-larger _ _ _ _ (beat ∙ w .0 .left) ∙ sym (w .1))) (c .if1 .came) in
+    (search needs, sym (best-next _ _ _ _ _ in-table _ (read .ensures) _ to) ∙ k .inv .1)
+
+returns : tie.Need-returns Inv-walk μ-walk
+returns c = sym (best-end _ _ _ _ _ (c .walk-test .taken)) ∙ c .before .walk .inv .1
+
+returns-2 : tie.Need-returns-2 Inv-walk μ-walk
+returns-2 c =
+    let start = c .before .before .before .before .before .before .before .before .before .before in
+    let a = start .args in
+    let k = c .before .before .before .before .before .before .before .before .walk in
+    let in-table = c .before .before .before .before .before .before .before .walk-test .left in
+    let read = c .before .before .before .before .before .before .piece-at in
+    let beat = sym (c .before .before .before .before .before .beats .ensures) ∙ c .before .before .before .before .if1 .taken in
+    let fit = sym (c .before .before .before .fits2 .ensures) ∙ c .before .before .if2 .taken in
+    let f : Piece → Bool = fitsIn (a .p) (a .class) (a .s) in
+    let least : (y : Piece) → f y ≡ true → a .s ≤ y .size = λ y. fits-least _ _ _ y (start .pre .0) in
+    let to : bestOf f (k .i) (k .held) (read .result) ≡ At (k .i) (read .result) = best-of-better _ _ _ _ fit beat in
+    sym (best-exact f (a .s) least (k .i) (read .result) (c .if3 .taken) _ _)
+    ∙ sym (best-next _ _ _ _ _ in-table _ (read .ensures) _ to) ∙ k .inv .1
+
+pub best-place-spec : {M : Type 1} → statement M
+best-place-spec =
+    tie.close
+    (tie.spec
+    Inv-walk
+    μ-walk
+    walk-holds
+    piece-at-requires
+    beats-requires
+    fits-requires
+    add-i
+    walk-less
+    walk-again
+    returns
+    returns-2)

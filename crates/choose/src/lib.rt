@@ -1,0 +1,92 @@
+// The best place for a piece: of the free entries that it fits, the smallest, and of several as small the lowest. Nothing is added to a size
+// or an address, so every table may be lent and every size up to 2^64 - 1 asked.
+pub mod spot;
+
+ghost use mathlib.Core.Path.{_≡_};
+ghost use Prim.Native.Nat.{_*_, _≤_, _<_};
+ghost use lib.ListN.{length};
+ghost use Rattle.pieces.specs.Words.{entryWords, entries};
+ghost use Rattle.choose.specs.Choose.{roomIn, fitsIn, better, best};
+use pieces::Class;
+use pieces::Piece;
+use pieces::Status;
+
+// An entry's number with its piece, or nothing where none fits.
+pub enum Place {
+    At(usize, Piece),
+    Nothing,
+}
+
+// Whether s bytes of a class have room in an entry. A large piece goes to the first border, so what the entry has beyond s bytes must reach
+// there. Only a large piece in an entry that is long enough costs a division.
+fn room(p: u64, class: Class, s: u64, address: u64, size: u64) -> bool
+    requires { ⌜ 0 < p ⌝ }
+    ensures { λ r. ⌜ r ≡ roomIn p class s address size ⌝ }
+{
+    if size < s {
+        return false;
+    }
+    match class {
+        Class::SmallMetadata => true,
+        Class::SmallRaw => true,
+        Class::Large => {
+            let spare = size - s;
+            pages::up_from(p, address) <= spare
+        }
+    }
+}
+
+// Whether a piece is a free entry of the class with room for s bytes.
+fn fits(p: u64, class: Class, s: u64, piece: Piece) -> bool
+    requires { ⌜ 0 < p ⌝ }
+    ensures { λ r. ⌜ r ≡ fitsIn p class s piece ⌝ }
+{
+    let status = piece.status;
+    match status {
+        Status::Live(_) => false,
+        Status::Free(c) => {
+            if pieces::same_class(c, class) {
+                return room(p, class, s, piece.address, piece.size);
+            }
+            false
+        }
+    }
+}
+
+// Whether an entry of this size is better than the best so far.
+fn beats(size: u64, held: Place) -> bool
+    ensures { λ r. ⌜ r ≡ better size held ⌝ }
+{
+    match held {
+        Place::Nothing => true,
+        Place::At(_, piece) => size < piece.size,
+    }
+}
+
+// The best place for s bytes of a class among the first n entries.
+pub fn best_place(p: u64, class: Class, s: u64, n: usize, table: &[u64]) -> Place
+    requires { ⌜ (0 < p) × (n * entryWords ≤ length (now table)) ⌝ }
+    ensures { λ r. ⌜ r ≡ best (fitsIn p class s) 0 Place.Nothing (entries (now (table .entry)) 0 n) ⌝ }
+{
+    let mut held = Place::Nothing;
+    let mut i: usize = 0;
+    // The best of all entries is the best of those from i on and of what is held.
+    'walk: loop {
+        if n <= i {
+            break 'walk;
+        }
+        let piece = pieces::piece_at(table, i);
+        // What is no better is not asked for its room, which can cost a division.
+        if beats(piece.size, held) {
+            if fits(p, class, s, piece) {
+                held = Place::At(i, piece);
+                // An exact fit cannot be beaten, and the walk goes up, so the first one is the lowest.
+                if piece.size == s {
+                    break 'walk;
+                }
+            }
+        }
+        i = i + 1;
+    }
+    held
+}

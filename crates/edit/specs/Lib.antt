@@ -1,0 +1,2 @@
+-- What the contracts of `edit` cite, and what is proved of it.
+pub mod Edit

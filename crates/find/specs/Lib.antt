@@ -1,0 +1,2 @@
+-- What the contracts of `find` cite, and what is proved of it.
+pub mod Find
