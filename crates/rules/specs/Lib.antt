@@ -1,0 +1,2 @@
+-- How a call edits the live pieces, and what is proved of it.
+pub mod Edits
