@@ -4,16 +4,16 @@
 -- a number lies in; `left` and `upFrom`; `borders`, the statement `Borders` of specs/Pages.antt.
 --
 -- Not here: laws of `/` and `%` (native.Mathlib.Nat). Assumes nothing.
-use mathlib.Core.Path.{_≡_, refl, sym, ap, _∙_}
-use mathlib.Core.Bool.{Bool, true, false}
 use Prim.Native.Nat.{ℕ, suc, _+_, _-_, _*_, _/_, _%_, _≤_, _<_}
-use native.Mathlib.Nat.{zero-mod, div-mul-le-self, lt-div-mul-add, mul-mod-left, div-add-mod', mul-le-mul-right, mod-lt, mul-add-mod-self-right, le-antisymm}
+use mathlib.Core.Bool.{true, false}
+use mathlib.Core.Path.{_≡_, sym, ap, _∙_}
 use native.Mathlib.Decide.{ℕ-discrete}
+use native.Mathlib.Nat.{zero-mod, div-mul-le-self, lt-div-mul-add, mul-mod-left, div-add-mod', mul-le-mul-right, mod-lt, mul-add-mod-self-right, le-antisymm}
 use native.Mathlib.Omega.{arith}
 use lib.Dec.{leb}
 use borrow.Author.Tests.{eq-eqb, ne-eqb, eqb-true, le-leb, lt-leb, leb-true}
-use Rattle.pages.specs.Pages.{leastPage, largestPage, PageSize, pageSizeb, Border, borderb, down, up, left, upFrom, LastBorder, FirstBorder, BordersAt, Borders}
 use Rattle.pages.proofs.Numbers.{split, and-left, and-right, both}
+use Rattle.pages.specs.Pages.{leastPage, largestPage, PageSize, pageSizeb, Border, borderb, down, up, left, upFrom, LastBorder, FirstBorder, BordersAt, Borders}
 
 -- ---- tests
 

@@ -3,18 +3,18 @@
 -- In this order: a class is small or large; what classes and statuses cannot be; tests; a kind and its status, both ways.
 --
 -- Assumes nothing.
-use mathlib.Core.Path.{_≡_, refl, sym}
-use mathlib.Core.Bool.{Bool, true, false, not, _&&_}
 use Prim.Native.Nat.{ℕ, zero, suc, _≤_, _<_}
+use mathlib.Core.Bool.{true, false}
+use mathlib.Core.Path.{_≡_, refl, sym}
 use native.Mathlib.Omega.{arith}
 use lib.Dec.{leb}
 use borrow.Author.Tests.{le-leb, lt-leb, leb-true}
 use Rattle.pages.proofs.Numbers.{and-left, and-right, both, not-both}
-use Rattle.pieces.specs.declared.Class.{Class}
+use Rattle.pieces.specs.Pieces.{Small, metadata, raw, IsFree, is-free, sameClass, kindOf, Kind, kindb, statusOf}
 use Rattle.pieces.specs.declared.Class.the-variants.{SmallMetadata, SmallRaw, Large}
-use Rattle.pieces.specs.declared.Status.{Status}
+use Rattle.pieces.specs.declared.Class.{Class}
 use Rattle.pieces.specs.declared.Status.the-variants.{Live, Free}
-use Rattle.pieces.specs.Pieces.{Small, metadata, raw, smallb, IsFree, is-free, freeb, sameClass, kindOf, Kind, kindb, statusOf}
+use Rattle.pieces.specs.declared.Status.{Status}
 
 -- ---- small or large
 

@@ -4,21 +4,21 @@
 -- `table-of-entries`; what a table holds; pieces laid one after the other.
 --
 -- Not here: laws of lists (lib.ListN, lib.Seq). Assumes nothing.
-use mathlib.Core.Path.{_≡_, refl, sym, ap, _∙_}
-use mathlib.Core.List.{List, [], _∷_, _++_, append-assoc, append-nil}
 use Prim.Native.Nat.{ℕ, zero, suc, _+_, _-_, _*_, _≤_, _<_}
-use native.Mathlib.Omega.{arith}
+use mathlib.Core.List.{List, [], _∷_, _++_, append-assoc}
+use mathlib.Core.Path.{_≡_, refl, sym, ap, _∙_}
 use native.Mathlib.Nat.{add-zero, zero-add}
 use native.Mathlib.Numerals.{add-one, add-two}
+use native.Mathlib.Omega.{arith}
 use lib.ListN.{length, getD, take, drop, set, replicate, length-append, length-replicate, length-take, length-drop, take-append-drop, getD-replicate}
 use lib.Seq.{drop-cons, ext-getD, getD-drop, take-at, drop-at, drop-drop, sets-eq, length-take-le, take-suc, getD-append-add}
-use Rattle.pieces.specs.declared.Class.the-variants.{SmallMetadata, SmallRaw, Large}
-use Rattle.pieces.specs.declared.Status.{Status}
-use Rattle.pieces.specs.declared.Status.the-variants.{Live, Free}
-use Rattle.pieces.specs.declared.Piece.{Piece}
-use Rattle.pieces.specs.Pieces.{piece, kindOf, Kind, statusOf}
-use Rattle.pieces.specs.Words.{entryWords, kindAt, entryAt, entries, words, table, laid, Zeros, EntriesOfTable, TableOfEntries}
 use Rattle.pieces.proofs.PieceLaws.{status-kind, kind-status}
+use Rattle.pieces.specs.Pieces.{kindOf, Kind}
+use Rattle.pieces.specs.Words.{entryWords, kindAt, entryAt, entries, words, table, laid, Zeros, EntriesOfTable, TableOfEntries}
+use Rattle.pieces.specs.declared.Class.the-variants.{SmallMetadata, SmallRaw, Large}
+use Rattle.pieces.specs.declared.Piece.{Piece}
+use Rattle.pieces.specs.declared.Status.the-variants.{Live, Free}
+use Rattle.pieces.specs.declared.Status.{Status}
 
 -- ---- lengths
 

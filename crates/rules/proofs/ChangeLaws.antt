@@ -4,29 +4,26 @@
 --   Room, resize-good       how long a piece may become: shorter, into the free entry of its class behind it, or beyond the end
 --
 -- Assumes nothing.
-use mathlib.Core.Path.{_≡_, refl, sym, ap, _∙_}
-use mathlib.Core.Bool.{Bool, true, false, cond, not, _&&_}
-use mathlib.Core.List.{List, [], _∷_, _++_, append-assoc, append-nil}
-use Prim.Native.Nat.{ℕ, _+_, _-_, _≤_, _<_, min, max}
+use Prim.Native.Nat.{ℕ, _+_, _-_, _≤_, _<_}
+use mathlib.Core.List.{List, [], _∷_}
+use mathlib.Core.Path.{_≡_, refl}
 use native.Mathlib.Omega.{arith}
-use lib.Dec.{ltb, eqb}
-use borrow.Author.Tests.{eqb-true, eq-eqb, ne-eqb, lt-ltb, le-ltb}
-use Rattle.pages.specs.Pages.{down, up, Border}
-use Rattle.pages.proofs.Numbers.{split, and-left, and-right}
-use Rattle.pages.proofs.PageLaws.{decBorder, down-le, down-lt, down-border, up-border, up-ge, up-lt, border-same, down-in, up-in, up-of, up-least, down-most, up-mono, not-border, up-down}
-use Rattle.pieces.specs.declared.Class.{Class}
-use Rattle.pieces.specs.declared.Class.the-variants.{SmallMetadata, SmallRaw, Large}
-use Rattle.pieces.specs.declared.Status.{Status}
-use Rattle.pieces.specs.declared.Status.the-variants.{Live, Free}
-use Rattle.pieces.specs.declared.Piece.{Piece}
+use borrow.Author.Tests.{eq-eqb, ne-eqb, lt-ltb, le-ltb}
+use Rattle.pages.proofs.PageLaws.{decBorder, up-of, up-least, up-mono}
+use Rattle.pages.specs.Pages.{up, Border}
+use Rattle.pieces.proofs.PieceLaws.{large}
 use Rattle.pieces.specs.Pieces.{piece, behind, classOf, Small}
-use Rattle.pieces.proofs.PieceLaws.{View, small, large, view, large-small}
-use Rattle.table.specs.Fill.{lives, consLive, free, lo, hi, gap, tail, fillFrom, fill, lastEnd, endOf, Within, Whole, Apart, border-between, one-family, GoodFrom, none, next, Good}
-use Rattle.table.proofs.Chain.{Entry, ChainFrom, stop, step, Chain}
-use Rattle.table.proofs.GapLaws.{apart-le}
-use Rattle.table.proofs.Canon.{canon, live-apart, live-whole, apart-widen}
+use Rattle.pieces.specs.declared.Class.the-variants.{Large}
+use Rattle.pieces.specs.declared.Class.{Class}
+use Rattle.pieces.specs.declared.Piece.{Piece}
+use Rattle.pieces.specs.declared.Status.the-variants.{Live, Free}
+use Rattle.pieces.specs.declared.Status.{Status}
+use Rattle.rules.specs.Edits.{insert, resize}
 use Rattle.table.proofs.Build.{large-apart}
-use Rattle.rules.specs.Edits.{Name, names, insert, resize}
+use Rattle.table.proofs.Canon.{canon, live-apart, live-whole, apart-widen}
+use Rattle.table.proofs.Chain.{ChainFrom, stop, step}
+use Rattle.table.proofs.GapLaws.{apart-le}
+use Rattle.table.specs.Fill.{lives, free, Whole, Apart, border-between, one-family, GoodFrom, none, next}
 
 module _ (P : ℕ) (pos : 0 < P) where
   good-earlier : {c : Class} {e' e : ℕ} {ps : List Piece} → e' ≤ e → GoodFrom P c e ps → GoodFrom P c e' ps

@@ -4,30 +4,28 @@
 --   release-count       without one live piece a table has no more entries
 --
 -- Assumes nothing.
+use Prim.Native.Nat.{ℕ, suc, _+_, _-_, _≤_, _<_, min}
+use mathlib.Core.Bool.{Bool, true, false, cond}
+use mathlib.Core.List.{List, _∷_, _++_}
 use mathlib.Core.Path.{_≡_, refl, sym, ap, _∙_}
-use mathlib.Core.Bool.{Bool, true, false, cond, not, _&&_}
-use mathlib.Core.List.{List, [], _∷_, _++_, append-assoc, append-nil}
-use Prim.Native.Nat.{ℕ, suc, _+_, _-_, _≤_, _<_, min, max}
 use native.Mathlib.Omega.{arith}
-use lib.Dec.{ltb, eqb}
-use borrow.Author.Tests.{eqb-true, eq-eqb, ne-eqb, lt-ltb, le-ltb}
-use Rattle.pages.specs.Pages.{down, up, Border}
-use Rattle.pages.proofs.Numbers.{split, and-left, and-right}
-use Rattle.pages.proofs.PageLaws.{decBorder, down-le, down-lt, down-border, up-border, up-ge, up-lt, border-same, down-in, up-in, up-of, up-least, down-most, up-mono, not-border, up-down}
-use Rattle.pieces.specs.declared.Class.{Class}
-use Rattle.pieces.specs.declared.Class.the-variants.{SmallMetadata, SmallRaw, Large}
-use Rattle.pieces.specs.declared.Status.{Status}
-use Rattle.pieces.specs.declared.Status.the-variants.{Live, Free}
-use Rattle.pieces.specs.declared.Piece.{Piece}
-use Rattle.pieces.specs.Pieces.{piece, behind, classOf, Small}
-use Rattle.pieces.proofs.PieceLaws.{View, small, large, view, large-small}
-use Rattle.table.specs.Fill.{lives, consLive, free, lo, hi, gap, tail, fillFrom, fill, lastEnd, endOf, Within, Whole, Apart, border-between, one-family, GoodFrom, none, next, Good}
-use Rattle.table.proofs.Chain.{Entry, ChainFrom, stop, step, Chain}
+use lib.Dec.{ltb}
 use lib.ListN.{length, length-append}
-use Rattle.table.proofs.GapLaws.{free-none, free-cons, lo-small, lo-large, hi-small, hi-large, gap-is, apart-le}
-use Rattle.table.proofs.Build.{Low, High, low, high}
-use Rattle.rules.specs.Edits.{Name, names, remove}
+use borrow.Author.Tests.{lt-ltb, le-ltb}
+use Rattle.pages.proofs.Numbers.{split}
+use Rattle.pages.proofs.PageLaws.{decBorder, down-le, down-lt, down-border, up-border, up-ge, up-lt, border-same, up-in, up-of, up-least, down-most, up-down}
+use Rattle.pages.specs.Pages.{down, up, Border}
+use Rattle.pieces.proofs.PieceLaws.{View, small, large, view}
+use Rattle.pieces.specs.Pieces.{piece, behind, Small}
+use Rattle.pieces.specs.declared.Class.the-variants.{Large}
+use Rattle.pieces.specs.declared.Class.{Class}
+use Rattle.pieces.specs.declared.Piece.{Piece}
+use Rattle.pieces.specs.declared.Status.the-variants.{Live}
 use Rattle.rules.proofs.RemoveLaws.{remove-good, apart-over}
+use Rattle.rules.specs.Edits.{Name, names, remove}
+use Rattle.table.proofs.Build.{Low, High, low, high}
+use Rattle.table.proofs.GapLaws.{free-none, free-cons, lo-small, lo-large, hi-small, gap-is, apart-le}
+use Rattle.table.specs.Fill.{free, lo, hi, gap, fillFrom, fill, Whole, Apart, border-between, one-family, GoodFrom, none, next, Good}
 
 -- 1 if there is a byte from a to b, and else 0
 pub tick : ℕ → ℕ → ℕ

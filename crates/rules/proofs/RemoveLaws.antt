@@ -1,30 +1,36 @@
--- Laws of removing a live piece.
+-- Laws of a name, and of removing a live piece.
 --
+--   named-address, named-size    what a name says
 --   remove-good      good live pieces without one are good
 --   remove-swap      two removals in either order leave the same
 --
 -- Assumes nothing.
-use mathlib.Core.Path.{_≡_, refl, sym, ap, _∙_}
-use mathlib.Core.Bool.{Bool, true, false, cond, not, _&&_}
-use mathlib.Core.List.{List, [], _∷_, _++_, append-assoc, append-nil}
-use Prim.Native.Nat.{ℕ, _+_, _-_, _≤_, _<_, min, max}
+use Prim.Native.Nat.{ℕ, _+_, _-_, _<_}
+use mathlib.Core.Bool.{Bool, true, false, cond}
+use mathlib.Core.List.{List, [], _∷_}
+use mathlib.Core.Path.{_≡_, refl, ap, _∙_}
 use native.Mathlib.Omega.{arith}
-use lib.Dec.{ltb, eqb}
-use borrow.Author.Tests.{eqb-true, eq-eqb, ne-eqb, lt-ltb, le-ltb}
-use Rattle.pages.specs.Pages.{down, up, Border}
-use Rattle.pages.proofs.Numbers.{split, and-left, and-right}
-use Rattle.pages.proofs.PageLaws.{decBorder, down-le, down-lt, down-border, up-border, up-ge, up-lt, border-same, down-in, up-in, up-of, up-least, down-most, up-mono, not-border, up-down}
+use lib.Dec.{eqb}
+use borrow.Author.Tests.{eqb-true}
+use Rattle.pages.proofs.Numbers.{and-left, and-right}
+use Rattle.pages.proofs.PageLaws.{up-mono}
+use Rattle.pieces.specs.Pieces.{piece}
 use Rattle.pieces.specs.declared.Class.{Class}
-use Rattle.pieces.specs.declared.Class.the-variants.{SmallMetadata, SmallRaw, Large}
-use Rattle.pieces.specs.declared.Status.{Status}
-use Rattle.pieces.specs.declared.Status.the-variants.{Live, Free}
 use Rattle.pieces.specs.declared.Piece.{Piece}
-use Rattle.pieces.specs.Pieces.{piece, behind, classOf, Small}
-use Rattle.pieces.proofs.PieceLaws.{View, small, large, view, large-small}
-use Rattle.table.specs.Fill.{lives, consLive, free, lo, hi, gap, tail, fillFrom, fill, lastEnd, endOf, Within, Whole, Apart, border-between, one-family, GoodFrom, none, next, Good}
-use Rattle.table.proofs.Chain.{Entry, ChainFrom, stop, step, Chain}
-use Rattle.table.proofs.GapLaws.{apart-le}
+use Rattle.pieces.specs.declared.Status.the-variants.{Live}
 use Rattle.rules.specs.Edits.{Name, names, remove}
+use Rattle.table.proofs.GapLaws.{apart-le}
+use Rattle.table.specs.Fill.{Apart, border-between, one-family, GoodFrom, none, next}
+
+-- ---- names
+
+pub named-address : (n : Name) (x : Piece) → names n x ≡ true → x .address ≡ n .address
+named-address n x e = eqb-true (x .address) (n .address) (and-left (eqb (x .address) (n .address)) (eqb (x .size) (n .size)) e)
+
+pub named-size : (n : Name) (x : Piece) → names n x ≡ true → x .size ≡ n .size
+named-size n x e = eqb-true (x .size) (n .size) (and-right (eqb (x .address) (n .address)) (eqb (x .size) (n .size)) e)
+
+-- ---- what is left
 
 module _ (P : ℕ) (pos : 0 < P) where
   pub apart-over : {k m m' : Class} {a b b' : ℕ} (n : ℕ) → Apart P k a b m → Apart P m (b + n) b' m' → Apart P k a b' m'

@@ -1,45 +1,31 @@
 -- A change between two live pieces leaves what is before the first and from the second on as it is.
 --
---   frontFrom P k a ps        the entries up to the last of the live pieces ps, behind a piece of class k that ends at a
---   lastClass k ps            the class of the last of ps; k, if there is none
---   closing P k a es          the free entries behind a piece of class k that ends at a, before the entries es, the first of which is live
 --   fill-append               a table is the front of its first live pieces, and the rest
 --   EndsLive, StartsLive      the last entry, the first entry is live, or there is none
 --   splice                    new live pieces between two live entries change only what lies between
 --   remove-at, resize-at, insert-at    an edit by its place among the live pieces
 --
 -- Assumes nothing.
-use mathlib.Core.Path.{_≡_, refl, sym, ap, _∙_}
-use mathlib.Core.Bool.{Bool, true, false, cond, not, _&&_}
+use Prim.Native.Nat.{ℕ, _+_, _-_, _≤_, _<_}
+use mathlib.Core.Bool.{true, false}
 use mathlib.Core.List.{List, [], _∷_, _++_, append-assoc, append-nil}
-use Prim.Native.Nat.{ℕ, _+_, _-_, _≤_, _<_, min, max}
+use mathlib.Core.Path.{_≡_, refl, sym, ap, _∙_}
 use native.Mathlib.Omega.{arith}
-use lib.Dec.{ltb, eqb}
-use borrow.Author.Tests.{eqb-true, eq-eqb, ne-eqb, lt-ltb, le-ltb}
-use Rattle.pages.specs.Pages.{down, up, Border}
-use Rattle.pages.proofs.Numbers.{split, and-left, and-right}
-use Rattle.pages.proofs.PageLaws.{decBorder, down-le, down-lt, down-border, up-border, up-ge, up-lt, border-same, down-in, up-in, up-of, up-least, down-most, up-mono, not-border, up-down}
+use borrow.Author.Tests.{ne-eqb, lt-ltb, le-ltb}
+use Rattle.pages.specs.Pages.{up}
+use Rattle.pieces.specs.Pieces.{piece, behind, classOf}
+use Rattle.pieces.specs.declared.Class.the-variants.{Large}
 use Rattle.pieces.specs.declared.Class.{Class}
-use Rattle.pieces.specs.declared.Class.the-variants.{SmallMetadata, SmallRaw, Large}
-use Rattle.pieces.specs.declared.Status.{Status}
-use Rattle.pieces.specs.declared.Status.the-variants.{Live, Free}
 use Rattle.pieces.specs.declared.Piece.{Piece}
-use Rattle.pieces.specs.Pieces.{piece, behind, classOf, Small}
-use Rattle.pieces.proofs.PieceLaws.{View, small, large, view, large-small}
-use Rattle.table.specs.Fill.{lives, consLive, free, lo, hi, gap, tail, fillFrom, fill, lastEnd, endOf, Within, Whole, Apart, border-between, one-family, GoodFrom, none, next, Good}
-use Rattle.table.proofs.Chain.{Entry, ChainFrom, stop, step, Chain}
-use Rattle.table.proofs.GapLaws.{gap-here, apart-le}
-use Rattle.table.proofs.Canon.{canon, Widen, widened}
+use Rattle.pieces.specs.declared.Status.the-variants.{Live, Free}
+use Rattle.pieces.specs.declared.Status.{Status}
+use Rattle.rules.proofs.RemoveLaws.{named-address}
+use Rattle.rules.specs.Between.{frontFrom, lastClass, closing}
 use Rattle.rules.specs.Edits.{Name, names, insert, remove, resize}
-
--- the entries up to the last of the live pieces ps, behind a piece of class k that ends at a
-unfoldable pub frontFrom : ℕ → Class → ℕ → List Piece → List Piece
-frontFrom P k a [] = []
-frontFrom P k a (p ∷ ps) = gap P k a (p .address) (classOf (p .status)) ++ (p ∷ frontFrom P (classOf (p .status)) (behind p) ps)
-
-unfoldable pub lastClass : Class → List Piece → Class
-lastClass k [] = k
-lastClass k (p ∷ ps) = lastClass (classOf (p .status)) ps
+use Rattle.table.proofs.Canon.{canon, Widen, widened}
+use Rattle.table.proofs.Chain.{ChainFrom, step, Chain}
+use Rattle.table.proofs.GapLaws.{gap-here, apart-le}
+use Rattle.table.specs.Fill.{lives, consLive, free, gap, fillFrom, fill, lastEnd, GoodFrom, none, next}
 
 pub fill-append : (P : ℕ) (k : Class) (a : ℕ) (ps qs : List Piece)
     → fillFrom P k a (ps ++ qs) ≡ frontFrom P k a ps ++ fillFrom P (lastClass k ps) (lastEnd a ps) qs
@@ -118,11 +104,6 @@ module _ (P : ℕ) (pos : 0 < P) where
   tail-of {s = s} {a = a} [] h = record { status = s; at = a; sound = h }
   tail-of (x ∷ xs) (step y r) = tail-of xs r
 
--- the free entries behind a piece of class k that ends at a, before the entries es, the first of which is live
-unfoldable pub closing : ℕ → Class → ℕ → List Piece → List Piece
-closing P k a [] = free k a (up P a)
-closing P k a (y ∷ ys) = gap P k a (y .address) (classOf (y .status))
-
 module _ (P : ℕ) (pos : 0 < P) where
   back-canon : {E : ℕ} {s : Status} {x : ℕ} {ys : List Piece} (k : Class) (a : ℕ) → StartsLive ys → ChainFrom P E s x ys
       → fillFrom P k a (lives ys) ≡ closing P k a ys ++ ys
@@ -154,9 +135,6 @@ module _ (P : ℕ) (pos : 0 < P) where
   other-name : (n : Name) (x : Piece) → (x .address ≡ n .address → ⊥) → names n x ≡ false
   other-name n x h = rw (ne-eqb (x .address) (n .address) h)
 
-  named-at : (n : Name) (x : Piece) → names n x ≡ true → x .address ≡ n .address
-  named-at n x e = eqb-true (x .address) (n .address) (and-left (eqb (x .address) (n .address)) (eqb (x .size) (n .size)) e)
-
   remove-none : {k : Class} {e : ℕ} {qs : List Piece} (n : Name) → n .address < e → GoodFrom P k e qs → remove n qs ≡ qs
   unfolding remove
   remove-none n l none = refl
@@ -168,9 +146,9 @@ module _ (P : ℕ) (pos : 0 < P) where
       → remove n (ps ++ (p ∷ qs)) ≡ ps ++ qs
   unfolding remove
   remove-at n [] p qs (next {b = b} d w g) e =
-      rw e (remove-none n (omega (arith, named-at n p e, w .some)) g)
+      rw e (remove-none n (omega (arith, named-address n p e, w .some)) g)
   remove-at n (x ∷ ps) p qs (next {b = b} {z = z} d w g) e =
-      let h : b < n .address = omega (arith, good-at ps p qs g, named-at n p e, w .some) in
+      let h : b < n .address = omega (arith, good-at ps p qs g, named-address n p e, w .some) in
       rw (other-name n x (λ i. omega arith), remove-at n ps p qs g e)
 
   pub resize-at : {k : Class} {a : ℕ} (n : Name) (z : ℕ) (ps : List Piece) (p : Piece) (qs : List Piece) → GoodFrom P k a (ps ++ (p ∷ qs)) → names n p ≡ true
@@ -178,7 +156,7 @@ module _ (P : ℕ) (pos : 0 < P) where
   unfolding resize
   resize-at n z [] p qs g e = rw e
   resize-at n z (x ∷ ps) p qs (next {b = b} d w g) e =
-      let h : b < n .address = omega (arith, good-at ps p qs g, named-at n p e, w .some) in
+      let h : b < n .address = omega (arith, good-at ps p qs g, named-address n p e, w .some) in
       rw (other-name n x (λ i. omega arith), resize-at n z ps p qs g e)
 
   -- here the pieces with the new one are good

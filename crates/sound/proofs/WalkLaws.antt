@@ -4,33 +4,32 @@
 -- the ranges; one entry, rule by rule; the whole test, part by part.
 --
 -- Assumes nothing.
-use mathlib.Core.Path.{_≡_, refl, sym, ap, _∙_}
+use Prim.Native.Nat.{ℕ, suc, _+_, _-_, _*_, _%_, _≤_, _<_}
 use mathlib.Core.Bool.{Bool, true, false, cond, not, _&&_}
-use mathlib.Core.List.{List, [], _∷_}
-use Prim.Native.Nat.{ℕ, zero, suc, _+_, _-_, _*_, _%_, _≤_, _<_}
-use native.Mathlib.Omega.{arith}
+use mathlib.Core.List.{List}
+use mathlib.Core.Path.{_≡_, refl, sym, ap, _∙_}
 use native.Mathlib.Numerals.{add-one}
-use lib.Dec.{leb, ltb, eqb}
+use native.Mathlib.Omega.{arith}
+use lib.Dec.{leb, eqb}
 use lib.ListN.{length, getD, drop, drop-of-length-le}
 use lib.Seq.{drop-cons}
 use borrow.Author.Tests.{le-leb, lt-leb, lt-ltb, le-ltb, eq-eqb, ne-eqb}
-use Rattle.pages.specs.Pages.{pageSizeb, Border, borderb, down, left}
 use Rattle.pages.proofs.Numbers.{split, leb-same, and-false}
 use Rattle.pages.proofs.PageLaws.{decBorder, true-border, false-border, left-down, left-of, left-full, left-within, left-exact, left-beyond}
-use Rattle.pieces.specs.declared.Class.{Class}
-use Rattle.pieces.specs.declared.Class.the-variants.{SmallMetadata, SmallRaw, Large}
-use Rattle.pieces.specs.declared.Status.{Status}
-use Rattle.pieces.specs.declared.Status.the-variants.{Live, Free}
-use Rattle.pieces.specs.declared.Piece.{Piece}
+use Rattle.pages.specs.Pages.{pageSizeb, borderb, down, left}
+use Rattle.pieces.proofs.WordLaws.{entries-next, entries-none}
 use Rattle.pieces.specs.Pieces.{classOf, freeb, sameClass, kindb}
 use Rattle.pieces.specs.Words.{entryWords, kindAt, entryAt, entries}
-use Rattle.pieces.proofs.WordLaws.{entries-next, entries-none}
-use Rattle.table.specs.Sound.{largestLimit, capacity}
-use Rattle.table.specs.Local.{tableLengthb, rangesb, withinb, shapeb, largeFreeb, besideb, cutb, entryb, noneb, chainb, kindsb, zerosb, localb}
-use Rattle.table.proofs.LocalLaws.{entry-room}
+use Rattle.pieces.specs.declared.Class.the-variants.{SmallMetadata, SmallRaw, Large}
+use Rattle.pieces.specs.declared.Piece.{Piece}
+use Rattle.pieces.specs.declared.Status.the-variants.{Live, Free}
+use Rattle.pieces.specs.declared.Status.{Status}
 use Rattle.sound.specs.Walk.{withinLeft, largeLeft, shapeByLeft, besideByLeft, leftBehind, walkAt, stepped}
-use Rattle.sound.specs.declared.walk.Walk.{Walk}
 use Rattle.sound.specs.declared.walk.Step.the-variants.{On, Broken}
+use Rattle.sound.specs.declared.walk.Walk.{Walk}
+use Rattle.table.proofs.LocalLaws.{entry-room}
+use Rattle.table.specs.Local.{tableLengthb, rangesb, withinb, shapeb, largeFreeb, besideb, cutb, entryb, noneb, chainb, kindsb, zerosb, localb}
+use Rattle.table.specs.Sound.{largestLimit, capacity}
 
 -- ---- the tests of one entry, as the code makes them
 

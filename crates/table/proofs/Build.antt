@@ -6,23 +6,23 @@
 --   fill-chain, lives-of-fill    the same of a whole table
 --
 -- Assumes nothing.
-use mathlib.Core.Path.{_≡_, refl, sym, ap, _∙_}
-use mathlib.Core.List.{List, [], _∷_, _++_, append-nil, append-assoc}
 use Prim.Native.Nat.{ℕ, _+_, _-_, _≤_, _<_, min, max}
+use mathlib.Core.List.{List, [], _∷_, _++_, append-nil, append-assoc}
+use mathlib.Core.Path.{_≡_, refl, sym, _∙_}
 use native.Mathlib.Omega.{arith}
-use Rattle.pages.specs.Pages.{down, up, Border}
 use Rattle.pages.proofs.Numbers.{split}
-use Rattle.pages.proofs.PageLaws.{decBorder, border-zero, border-true, true-border, false-border, down-le, down-lt, down-border, up-border, up-ge, up-lt, border-step, border-same, down-in, down-of, up-in, up-of, up-least, down-most, up-mono, not-border, up-down, border-next}
-use Rattle.pieces.specs.declared.Class.{Class}
-use Rattle.pieces.specs.declared.Class.the-variants.{SmallMetadata, SmallRaw, Large}
-use Rattle.pieces.specs.declared.Status.{Status}
-use Rattle.pieces.specs.declared.Status.the-variants.{Live, Free}
-use Rattle.pieces.specs.declared.Piece.{Piece}
-use Rattle.pieces.specs.Pieces.{piece, behind, classOf, Small, IsFree, is-free}
+use Rattle.pages.proofs.PageLaws.{decBorder, down-le, down-lt, down-border, up-border, up-ge, up-lt, down-of, up-of, down-most, up-down}
+use Rattle.pages.specs.Pages.{down, up, Border}
 use Rattle.pieces.proofs.PieceLaws.{View, small, large, view, large-small, small-large, live-free, not-free}
-use Rattle.table.specs.Fill.{lives, consLive, free, lo, hi, gap, tail, fillFrom, fill, lastEnd, endOf, Within, Whole, Apart, border-between, one-family, GoodFrom, none, next, Good}
+use Rattle.pieces.specs.Pieces.{piece, behind, classOf, Small, IsFree}
+use Rattle.pieces.specs.declared.Class.the-variants.{Large}
+use Rattle.pieces.specs.declared.Class.{Class}
+use Rattle.pieces.specs.declared.Piece.{Piece}
+use Rattle.pieces.specs.declared.Status.the-variants.{Live, Free}
+use Rattle.pieces.specs.declared.Status.{Status}
 use Rattle.table.proofs.Chain.{Entry, ChainFrom, stop, step, Chain}
-use Rattle.table.proofs.GapLaws.{free-none, free-cons, lo-small, lo-large, hi-small, hi-large, gap-is, lo-here, hi-here, lo-border, apart-le}
+use Rattle.table.proofs.GapLaws.{free-none, free-cons, lo-small, lo-large, hi-small, hi-large, gap-is, apart-le}
+use Rattle.table.specs.Fill.{lives, free, lo, hi, gap, tail, fillFrom, fill, lastEnd, endOf, Within, Whole, Apart, border-between, one-family, GoodFrom, none, next, Good}
 
 lives-free : (c : Class) (a b : ℕ) (es : List Piece) → lives (free c a b ++ es) ≡ lives es
 unfolding lives

@@ -6,22 +6,22 @@
 --   canonical     the same of a whole table
 --
 -- Assumes nothing.
+use Prim.Native.Nat.{ℕ, _+_, _-_, _≤_, _<_, max}
+use mathlib.Core.List.{List, [], _∷_}
 use mathlib.Core.Path.{_≡_, refl, sym, ap, _∙_}
-use mathlib.Core.List.{List, [], _∷_, _++_}
-use Prim.Native.Nat.{ℕ, _+_, _-_, _≤_, _<_, min, max}
 use native.Mathlib.Omega.{arith}
+use Rattle.pages.proofs.PageLaws.{decBorder, down-in, up-in, up-of, down-most, up-mono, not-border, up-down}
 use Rattle.pages.specs.Pages.{down, up, Border}
-use Rattle.pages.proofs.PageLaws.{decBorder, border-zero, border-true, true-border, false-border, down-le, down-lt, down-border, up-border, up-ge, up-lt, border-step, border-same, down-in, down-of, up-in, up-of, up-least, down-most, up-mono, not-border, up-down, border-next}
-use Rattle.pieces.specs.declared.Class.{Class}
-use Rattle.pieces.specs.declared.Class.the-variants.{SmallMetadata, SmallRaw, Large}
-use Rattle.pieces.specs.declared.Status.{Status}
-use Rattle.pieces.specs.declared.Status.the-variants.{Live, Free}
-use Rattle.pieces.specs.declared.Piece.{Piece}
-use Rattle.pieces.specs.Pieces.{piece, behind, classOf, Small, IsFree, is-free}
 use Rattle.pieces.proofs.PieceLaws.{View, small, large, view, large-small}
-use Rattle.table.specs.Fill.{lives, consLive, free, lo, hi, gap, fillFrom, fill, lastEnd, endOf, Within, Whole, Apart, border-between, one-family, GoodFrom, none, next, Good}
+use Rattle.pieces.specs.Pieces.{piece, classOf, Small, is-free}
+use Rattle.pieces.specs.declared.Class.the-variants.{Large}
+use Rattle.pieces.specs.declared.Class.{Class}
+use Rattle.pieces.specs.declared.Piece.{Piece}
+use Rattle.pieces.specs.declared.Status.the-variants.{Live, Free}
+use Rattle.pieces.specs.declared.Status.{Status}
 use Rattle.table.proofs.Chain.{Entry, ChainFrom, stop, step, Chain}
-use Rattle.table.proofs.GapLaws.{free-none, free-some, lo-small, lo-large, hi-small, hi-large, gap-is, lo-here, hi-here, lo-border, gap-here, apart-le}
+use Rattle.table.proofs.GapLaws.{free-none, free-some, lo-small, lo-large, hi-small, hi-large, gap-is, hi-here, lo-border, gap-here, apart-le}
+use Rattle.table.specs.Fill.{lives, free, lo, hi, gap, fillFrom, fill, lastEnd, endOf, Within, Whole, Apart, border-between, one-family, GoodFrom, none, next, Good}
 
 module _ (P : ℕ) (pos : 0 < P) where
   -- ---- what follows a free entry: the live pieces that are left begin so

@@ -3,21 +3,19 @@
 -- In this order: a free entry, if there is one; the two borders by class; the gap by its borders; what holds where two pieces touch.
 --
 -- Assumes nothing.
-use mathlib.Core.Path.{_≡_, refl, sym, ap, _∙_}
-use mathlib.Core.List.{List, [], _∷_, _++_}
 use Prim.Native.Nat.{ℕ, _+_, _-_, _≤_, _<_, min, max}
-use native.Mathlib.Omega.{arith}
+use mathlib.Core.List.{[], _∷_, _++_}
+use mathlib.Core.Path.{_≡_, refl, _∙_}
 use native.Mathlib.Nat.{add-sub-cancel-left}
+use native.Mathlib.Omega.{arith}
 use borrow.Author.Tests.{lt-ltb, le-ltb}
+use Rattle.pages.proofs.PageLaws.{down-le, up-ge, up-of}
 use Rattle.pages.specs.Pages.{down, up, Border}
-use Rattle.pages.proofs.PageLaws.{decBorder, border-zero, border-true, true-border, false-border, down-le, down-lt, down-border, up-border, up-ge, up-lt, border-step, border-same, down-in, down-of, up-in, up-of, up-least, down-most, up-mono, not-border, up-down, border-next}
-use Rattle.pieces.specs.declared.Class.{Class}
-use Rattle.pieces.specs.declared.Class.the-variants.{SmallMetadata, SmallRaw, Large}
-use Rattle.pieces.specs.declared.Status.{Status}
-use Rattle.pieces.specs.declared.Status.the-variants.{Live, Free}
-use Rattle.pieces.specs.declared.Piece.{Piece}
+use Rattle.pieces.proofs.PieceLaws.{small, large, view}
 use Rattle.pieces.specs.Pieces.{piece, Small, metadata, raw}
-use Rattle.pieces.proofs.PieceLaws.{View, small, large, view}
+use Rattle.pieces.specs.declared.Class.the-variants.{Large}
+use Rattle.pieces.specs.declared.Class.{Class}
+use Rattle.pieces.specs.declared.Status.the-variants.{Free}
 use Rattle.table.specs.Fill.{free, lo, hi, gap, Apart, border-between, one-family}
 
 -- ---- a free entry

@@ -7,23 +7,23 @@
 --   no-entry, no-byte there is no entry exactly when the file is empty
 --
 -- Assumes nothing.
-use mathlib.Core.Path.{_≡_, refl, sym, ap, _∙_}
-use mathlib.Core.List.{List, [], _∷_, List·Memᴰ, List·Memᴰ·head, List·Memᴰ·tail}
 use Prim.Native.Nat.{ℕ, _+_, _≤_, _<_}
+use mathlib.Core.List.{List, [], _∷_, List·Memᴰ, List·Memᴰ·head, List·Memᴰ·tail}
+use mathlib.Core.Path.{_≡_, refl, sym, ap, _∙_}
 use native.Mathlib.Omega.{arith}
-use Rattle.pages.specs.Pages.{down, Border}
 use Rattle.pages.proofs.Numbers.{split}
 use Rattle.pages.proofs.PageLaws.{border-zero, down-le, down-lt, down-border, down-in, down-of, not-border, border-next}
-use Rattle.pieces.specs.declared.Class.{Class}
-use Rattle.pieces.specs.declared.Class.the-variants.{SmallMetadata, SmallRaw, Large}
-use Rattle.pieces.specs.declared.Status.{Status}
-use Rattle.pieces.specs.declared.Status.the-variants.{Live, Free}
-use Rattle.pieces.specs.declared.Piece.{Piece}
-use Rattle.pieces.specs.Pieces.{piece, classOf, Small, IsFree, is-free}
+use Rattle.pages.specs.Pages.{down, Border}
 use Rattle.pieces.proofs.PieceLaws.{View, small, large, view}
+use Rattle.pieces.specs.Pieces.{piece, classOf, Small, IsFree, is-free}
+use Rattle.pieces.specs.declared.Class.the-variants.{Large}
+use Rattle.pieces.specs.declared.Class.{Class}
+use Rattle.pieces.specs.declared.Piece.{Piece}
+use Rattle.pieces.specs.declared.Status.the-variants.{Live, Free}
+use Rattle.pieces.specs.declared.Status.{Status}
+use Rattle.table.proofs.Chain.{Entry, ChainFrom, stop, step, Chain}
 use Rattle.table.specs.Fill.{Within}
 use Rattle.table.specs.Sound.{Tiles, tiled, tile, Touches, LiveIn, Neighbours, here, later, Last, last-one, last-later, SoundEntries}
-use Rattle.table.proofs.Chain.{Entry, ChainFrom, stop, step, Chain}
 
 module _ (P : ℕ) (pos : 0 < P) where
   pub mem-from : {E : ℕ} {s : Status} {a : ℕ} {es : List Piece} {x : Piece} → ChainFrom P E s a es → List·Memᴰ x es → a ≤ x .address

@@ -4,31 +4,30 @@
 -- `chain-true` and `true-chain`; the ranges, kinds and zeros of state and slice.
 --
 -- Assumes nothing.
-use mathlib.Core.Path.{_≡_, refl, sym, ap, _∙_, subst⁻¹}
-use mathlib.Core.Bool.{Bool, true, false, cond, not, _&&_, _||_}
-use mathlib.Core.List.{List, [], _∷_}
 use Prim.Native.Nat.{ℕ, zero, suc, _+_, _-_, _*_, _%_, _≤_, _<_}
+use mathlib.Core.Bool.{Bool, true, not, _&&_}
+use mathlib.Core.List.{List, [], _∷_}
+use mathlib.Core.Path.{_≡_, refl, sym, ap, _∙_, subst⁻¹}
 use native.Mathlib.Omega.{arith}
-use native.Mathlib.Numerals.{add-one}
 use lib.Dec.{leb, ltb, eqb}
-use lib.ListN.{length, getD, drop, length-drop, drop-of-length-le}
+use lib.ListN.{length, getD, drop, length-drop}
 use lib.Seq.{getD-drop}
 use borrow.Author.Tests.{ltb-true, leb-true, eqb-true, lt-ltb, le-leb, eq-eqb}
-use Rattle.pages.specs.Pages.{PageSize, pageSizeb, Border, borderb, down}
 use Rattle.pages.proofs.Numbers.{split, and-left, and-right, both, not-both}
 use Rattle.pages.proofs.PageLaws.{decBorder, border-true, true-border, false-border, page-size-true, true-page-size}
-use Rattle.pieces.specs.declared.Class.{Class}
-use Rattle.pieces.specs.declared.Class.the-variants.{SmallMetadata, SmallRaw, Large}
-use Rattle.pieces.specs.declared.Status.{Status}
-use Rattle.pieces.specs.declared.Status.the-variants.{Live, Free}
-use Rattle.pieces.specs.declared.Piece.{Piece}
-use Rattle.pieces.specs.Pieces.{piece, classOf, Small, metadata, raw, smallb, IsFree, is-free, freeb, sameClass, Kind, kindb}
-use Rattle.pieces.specs.Words.{entryWords, kindAt, entries, Zeros}
+use Rattle.pages.specs.Pages.{pageSizeb, Border, borderb, down}
 use Rattle.pieces.proofs.PieceLaws.{large-small, live-free, same-class, class-same, kind-true, true-kind}
-use Rattle.table.specs.Fill.{Within}
-use Rattle.table.specs.Sound.{largestLimit, leastCapacity, largestCapacity, capacity, TableLength, Ranges}
-use Rattle.table.specs.Local.{tableLengthb, rangesb, kindsb, zerosb, withinb, shapeb, largeFreeb, besideb, cutb, entryb, noneb, chainb}
+use Rattle.pieces.specs.Pieces.{piece, classOf, Small, metadata, raw, IsFree, is-free, freeb, sameClass, Kind, kindb}
+use Rattle.pieces.specs.Words.{entryWords, kindAt, entries, Zeros}
+use Rattle.pieces.specs.declared.Class.the-variants.{SmallMetadata, SmallRaw, Large}
+use Rattle.pieces.specs.declared.Class.{Class}
+use Rattle.pieces.specs.declared.Piece.{Piece}
+use Rattle.pieces.specs.declared.Status.the-variants.{Live, Free}
+use Rattle.pieces.specs.declared.Status.{Status}
 use Rattle.table.proofs.Chain.{Entry, ChainFrom, stop, step}
+use Rattle.table.specs.Fill.{Within}
+use Rattle.table.specs.Local.{tableLengthb, rangesb, kindsb, zerosb, withinb, shapeb, largeFreeb, besideb, cutb, entryb, noneb, chainb}
+use Rattle.table.specs.Sound.{largestLimit, leastCapacity, largestCapacity, capacity, TableLength, Ranges}
 
 -- ---- an entry by itself
 

@@ -3,32 +3,31 @@
 --   sound-chain, chain-sound      Sound, and the chain of its entries with the rest of what it says
 --
 -- Assumes nothing.
-use mathlib.Core.Path.{_≡_, refl, sym, ap, _∙_, subst⁻¹}
+use Prim.Native.Nat.{ℕ, _*_, _≤_, _<_}
 use mathlib.Core.Bool.{Bool, true, _&&_}
 use mathlib.Core.List.{List, []}
-use Prim.Native.Nat.{ℕ, _+_, _*_, _/_, _≤_, _<_}
-use native.Mathlib.Omega.{arith}
+use mathlib.Core.Path.{_≡_, sym, ap, _∙_, subst⁻¹}
 use native.Mathlib.Nat.{div-mul-le-self, mul-le-mul-right, le-trans, zero-add}
+use native.Mathlib.Omega.{arith}
 use lib.ListN.{length, getD, drop}
-use Rattle.pages.specs.Pages.{Border}
 use Rattle.pages.proofs.Numbers.{and-left, and-right, both}
 use Rattle.pages.proofs.PageLaws.{page-pos}
-use Rattle.pieces.specs.declared.Class.the-variants.{Large}
-use Rattle.pieces.specs.declared.Status.the-variants.{Live}
-use Rattle.pieces.specs.declared.Piece.{Piece}
+use Rattle.pieces.proofs.WordLaws.{length-entries, entries-of-table, table-of-entries, zeros-of-table, kinds-of-table}
 use Rattle.pieces.specs.Pieces.{Kind}
 use Rattle.pieces.specs.Words.{entryWords, kindAt, entryAt, entries, table, Zeros}
-use Rattle.pieces.proofs.WordLaws.{length-entries, entries-of-table, table-of-entries, zeros-of-table, kinds-of-table}
-use Rattle.table.specs.Fill.{lives, fill, endOf, Good}
-use Rattle.table.specs.Sound.{capacity, Ranges, SoundEntries, Sound}
-use Rattle.table.specs.Local.{rangesb, kindsb, zerosb, chainb, localb}
-use Rattle.table.specs.Theorems.{LocalForm, Filled, FillForm, DeterminedBy, Determined, Same, OneTable, FillLives, Holds, OneEntry, Tiling}
-use Rattle.table.proofs.Chain.{Chain}
-use Rattle.table.proofs.Canon.{canonical}
+use Rattle.pieces.specs.declared.Class.the-variants.{Large}
+use Rattle.pieces.specs.declared.Piece.{Piece}
+use Rattle.pieces.specs.declared.Status.the-variants.{Live}
 use Rattle.table.proofs.Build.{fill-chain, lives-of-fill}
+use Rattle.table.proofs.Canon.{canonical}
+use Rattle.table.proofs.Chain.{Chain}
 use Rattle.table.proofs.Literal.{rules-of, chain-of, no-entry, no-byte}
 use Rattle.table.proofs.LocalLaws.{chain-true, true-chain, ranges-true, true-ranges, kinds-true, true-kinds, zeros-true, true-zeros}
 use Rattle.table.proofs.TilingLaws.{nothing, entries-at, covered, below-end, alone}
+use Rattle.table.specs.Fill.{lives, fill, endOf, Good}
+use Rattle.table.specs.Local.{rangesb, kindsb, zerosb, chainb, localb}
+use Rattle.table.specs.Sound.{Ranges, Sound}
+use Rattle.table.specs.Theorems.{LocalForm, Filled, FillForm, DeterminedBy, Determined, OneTable, FillLives, Holds, OneEntry, Tiling}
 
 pub count-fits : {P M E n len : ℕ} → Ranges P M E n len → n * entryWords ≤ len
 count-fits {n = n} {len = len} r = le-trans (mul-le-mul-right entryWords (r .count)) (div-mul-le-self len entryWords)

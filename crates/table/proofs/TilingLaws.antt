@@ -5,21 +5,19 @@
 --   below-end     no entry reaches beyond the end
 --
 -- Assumes nothing.
-use mathlib.Core.Path.{_≡_, refl, sym, ap, _∙_}
-use mathlib.Core.List.{List, [], _∷_}
 use Prim.Native.Nat.{ℕ, zero, suc, _+_, _≤_, _<_}
+use mathlib.Core.List.{List, _∷_}
+use mathlib.Core.Path.{_≡_}
 use native.Mathlib.Omega.{arith}
-use native.Mathlib.Nat.{zero-add}
 use lib.ListN.{length, getD}
 use Rattle.pages.proofs.Numbers.{split}
-use Rattle.pieces.specs.declared.Class.the-variants.{Large}
-use Rattle.pieces.specs.declared.Status.{Status}
-use Rattle.pieces.specs.declared.Status.the-variants.{Free}
-use Rattle.pieces.specs.declared.Piece.{Piece}
 use Rattle.pieces.specs.Pieces.{piece, behind}
 use Rattle.pieces.specs.Words.{entryAt, entries}
+use Rattle.pieces.specs.declared.Class.the-variants.{Large}
+use Rattle.pieces.specs.declared.Piece.{Piece}
+use Rattle.pieces.specs.declared.Status.the-variants.{Free}
 use Rattle.table.specs.Sound.{Tiles, tiled, tile}
-use Rattle.table.specs.Theorems.{Holds, OneEntry}
+use Rattle.table.specs.Theorems.{Holds}
 
 -- what stands past the last entry, which no byte lies in
 abbrev pub nothing : Piece
