@@ -1,0 +1,221 @@
+-- Laws of a plan: what it replaces, and with what, gives the table and the end of the new live pieces.
+--
+--   closing-next, closing-none    what closes before a live piece, and before nothing
+--   end-behind-next, -none        the end, likewise
+--   sums                          what a sound table's entries leave of the numbers of 64 bits
+--   plan-filled, plan-ends        the table and the end, for any new pieces between the two live ones
+--   planned-is                    the whole, of a plan whose new entries are these
+--   planned-without, planned-with the plans, as the code makes them
+--
+-- Assumes nothing.
+use Prim.Native.Nat.{ℕ, zero, suc, _+_, _-_, _≤_, _<_, _^_}
+use mathlib.Core.List.{List, [], _∷_, _++_, append-assoc}
+use mathlib.Core.Path.{_≡_, refl, sym, ap, _∙_, subst, subst⁻¹}
+use native.Mathlib.Nat.{zero-add}
+use native.Mathlib.Omega.{arith}
+use lib.ListN.{length, getD, length-append}
+use borrow.Author.Tests.{lt-ltb, le-ltb}
+use Rattle.change.proofs.AroundLaws.{entries-parts, former-is, NextIs, next-is}
+use Rattle.change.specs.Change.{formerStep, formerOf, nextOf, endBehind, planOf, PlanFits, Planned}
+use Rattle.change.specs.declared.around.Former.{Former}
+use Rattle.change.specs.declared.plan.Plan.{Plan}
+use Rattle.choose.specs.Spot.{EndsFit}
+use Rattle.edit.proofs.FewLaws.{holding-more}
+use Rattle.edit.specs.Edit.{held, Holding}
+use Rattle.edit.specs.declared.few.Few.{Few}
+use Rattle.pages.proofs.Numbers.{split}
+use Rattle.pages.proofs.PageLaws.{page-pos}
+use Rattle.pages.specs.Pages.{up}
+use Rattle.pieces.proofs.WordLaws.{length-entries, entries-next, entries-none}
+use Rattle.pieces.specs.Pieces.{behind, classOf}
+use Rattle.pieces.specs.Words.{entryAt, entries}
+use Rattle.pieces.specs.declared.Class.{Class}
+use Rattle.pieces.specs.declared.Piece.{Piece}
+use Rattle.pieces.specs.declared.Status.the-variants.{Live, Free}
+use Rattle.pieces.specs.declared.Status.{Status}
+use Rattle.rules.proofs.SpliceLaws.{StartsLive, starts-none, starts-live, lives-append, splice}
+use Rattle.rules.specs.Between.{frontFrom, lastClass, closing, livesWith}
+use Rattle.table.proofs.Canon.{canonical}
+use Rattle.table.proofs.Chain.{Chain}
+use Rattle.table.proofs.Literal.{chain-of}
+use Rattle.table.proofs.TilingLaws.{nothing, entries-at, below-end}
+use Rattle.table.specs.Fill.{lives, gap, tail, fill, lastEnd, endOf}
+
+-- ---- what closes, as the code finds it
+
+pub closing-next : (P : ℕ) (k : Class) (a : ℕ) (w : List ℕ) (to n : ℕ) (y : Piece) → to < n → y ≡ entryAt w to
+    → closing P k a (entries w to (n - to)) ≡ gap P k a (y .address) (classOf (y .status))
+unfolding closing
+closing-next P k a w to n y lt is = rw (entries-next w n to lt, ← is)
+
+pub closing-none : (P : ℕ) (k : Class) (a : ℕ) (w : List ℕ) (to n : ℕ) → n ≤ to → closing P k a (entries w to (n - to)) ≡ tail P k a
+unfolding closing
+closing-none P k a w to n le = rw (entries-none w n to le)
+
+pub end-behind-next : (P E a to n : ℕ) → to < n → endBehind P E a to n ≡ E
+unfolding endBehind
+end-behind-next P E a to n h = rw (lt-ltb to n h)
+
+pub end-behind-none : (P E a to n : ℕ) → n ≤ to → endBehind P E a to n ≡ up P a
+unfolding endBehind
+end-behind-none P E a to n h = rw (le-ltb to n h)
+
+-- ---- the ends of lists of live pieces
+
+last-end-append : (a : ℕ) (ps qs : List Piece) → lastEnd a (ps ++ qs) ≡ lastEnd (lastEnd a ps) qs
+unfolding lastEnd
+last-end-append a [] qs = refl
+last-end-append a (p ∷ ps) qs = last-end-append (behind p) ps qs
+
+-- where live pieces follow, what is before them has no say in the end
+last-end-live : (a b : ℕ) {es : List Piece} → StartsLive es → (es ≡ [] → ⊥) → lastEnd a (lives es) ≡ lastEnd b (lives es)
+unfolding lastEnd lives
+last-end-live a b starts-none some = absurd (some refl)
+last-end-live a b starts-live some = refl
+
+module _ {P E n i j : ℕ} {w : List ℕ} (h : PlanFits P E n i j w) where
+  abbrev f : Former
+  f = formerOf w i
+
+  abbrev t : ℕ
+  t = nextOf w j (n - j)
+
+  abbrev xs : List Piece
+  xs = entries w 0 (f .from)
+
+  abbrev ys : List Piece
+  ys = entries w t (n - t)
+
+  pub chain : Chain P E (entries w 0 n)
+  chain = chain-of P (page-pos (h .page)) (h .border) (h .rules)
+
+  next-at : NextIs w j (n - j) t
+  next-at = next-is w j (n - j)
+
+  whole : j + (n - j) ≡ n
+  whole = omega (arith, h .high)
+
+  pub from-to : f .from ≤ t
+  from-to = omega (arith, former-is w i .le, h .low, next-at .ge)
+
+  pub to-n : t ≤ n
+  to-n = omega (arith, next-at .le, h .high)
+
+  starts : StartsLive ys
+  starts = rw whole at (next-at .starts)
+
+  same : (ps : List Piece) → livesWith w n i j ps ≡ lives xs ++ (ps ++ lives ys)
+  same ps =
+      let e : lives (entries w j (n - j)) ≡ lives ys = rw whole at (next-at .same) in
+      rw (former-is w i .same, e)
+
+  parts : Chain P E (xs ++ (entries w (f .from) (t - f .from) ++ ys))
+  parts = rw (entries-parts w (f .from) t n from-to to-n) at chain
+
+  pub plan-filled : (ps : List Piece)
+      → xs ++ ((frontFrom P (f .class) (f .end) ps ++ closing P (lastClass (f .class) ps) (lastEnd (f .end) ps) ys) ++ ys) ≡ fill P (livesWith w n i j ps)
+  plan-filled ps =
+      let g = splice P (page-pos (h .page)) xs (entries w (f .from) (t - f .from)) ys ps (former-is w i .live) starts parts in
+      rw (same ps, append-assoc) (sym (rw (former-is w i .class-is, former-is w i .end-is) at g))
+
+  -- ---- the end: where live pieces follow it stays
+
+  end-parts : (ps qs : List Piece) → lastEnd 0 (ps ++ (qs ++ lives ys)) ≡ lastEnd (lastEnd (lastEnd 0 ps) qs) (lives ys)
+  end-parts ps qs = last-end-append 0 ps (qs ++ lives ys) ∙ last-end-append (lastEnd 0 ps) qs (lives ys)
+
+  none-follow : (ps : List Piece) → n ≤ t → lastEnd 0 (lives xs ++ (ps ++ lives ys)) ≡ lastEnd (f .end) ps
+  unfolding lives lastEnd
+  none-follow ps l = end-parts (lives xs) ps ∙ rw (entries-none w n t l, former-is w i .end-is)
+
+  some-follow : (ps : List Piece) → t < n → up P (lastEnd 0 (lives xs ++ (ps ++ lives ys))) ≡ E
+  unfolding endOf
+  some-follow ps l =
+      let mid : List Piece = entries w (f .from) (t - f .from) in
+      let some : ys ≡ [] → ⊥ = λ e. omega (arith, sym (length-entries w t (n - t)) ∙ ap length e) in
+      let old : lives (entries w 0 n) ≡ lives xs ++ (lives mid ++ lives ys) =
+      rw (entries-parts w (f .from) t n from-to to-n, lives-append xs (mid ++ ys), lives-append mid ys) in
+      let e : E ≡ up P (lastEnd 0 (lives xs ++ (lives mid ++ lives ys))) = canonical (page-pos (h .page)) chain .1 ∙ ap (λ (l : List Piece). up P (lastEnd 0 l)) old in
+      sym (e ∙ ap (up P) (end-parts (lives xs) (lives mid) ∙ (last-end-live _ _ starts some ∙ sym (end-parts (lives xs) ps))))
+
+  pub plan-ends : (ps : List Piece) → endBehind P E (lastEnd (f .end) ps) t n ≡ endOf P (livesWith w n i j ps)
+  unfolding endOf
+  plan-ends ps =
+      rw (same ps)
+      (split n t
+      (λ l. end-behind-none P E (lastEnd (f .end) ps) t n l ∙ ap (up P) (sym (none-follow ps l)))
+      (λ l. end-behind-next P E (lastEnd (f .end) ps) t n l ∙ sym (some-follow ps l)))
+
+  -- ---- sums
+
+  ends-below : (k : ℕ) → k < n → behind (entryAt w k) ≤ E
+  ends-below k l =
+      let e : getD (entries w 0 n) k nothing ≡ entryAt w k = entries-at w 0 n k l ∙ ap (entryAt w) (zero-add k) in
+      rw e at (below-end (h .rules .tiling) k (rw length-entries l))
+
+  pub ends-fit : EndsFit w i
+  ends-fit k l = omega (arith, ends-below k (omega (arith, h .low, h .high)), page-pos (h .page), h .file)
+
+  former-below : (k : ℕ) → k ≤ n → formerOf w k .end ≤ E
+  unfolding formerOf
+  former-below zero l = omega arith
+  former-below (suc k) l = go (entryAt w k .status) (former-below k (omega arith))
+    where
+      go : (s : Status) → formerOf w k .end ≤ E → formerStep k (entryAt w k) s (formerOf w k) .end ≤ E
+      go (Live c) r = ends-below k (omega arith)
+      go (Free c) r = r
+
+  pub former-sum : f .end + P ≤ 2 ^ 64
+  former-sum = omega (arith, former-below i (omega (arith, h .low, h .high)), h .file)
+
+  -- ---- the whole
+
+  module _ (ps : List Piece) (q : Few) (g : Holding q (frontFrom P (f .class) (f .end) ps ++ closing P (lastClass (f .class) ps) (lastEnd (f .end) ps) ys)) where
+    filled : xs ++ (held q ++ ys) ≡ fill P (livesWith w n i j ps)
+    filled = rw (g .pieces) (plan-filled ps)
+
+    counted : f .from + q .count + (n - t) ≡ length (fill P (livesWith w n i j ps))
+    counted =
+        let e = simp (length-append, length-entries, g .pieces) at (ap length filled) in
+        omega (arith, g .count, simp length-append at (g .count), e)
+
+    pub planned-is : Planned P n w (livesWith w n i j ps) (planOf P E n (f .from) t q (lastEnd (f .end) ps))
+    planned-is =
+        record { low = from-to; high = to-n; few = g .few; counted = refl; count = counted; ends = plan-ends ps; filled = filled }
+
+-- ---- the plans, as the code makes them
+
+-- a plan of what was found is a plan of what is there
+module _ {P E n i j : ℕ} {w : List ℕ} (h : PlanFits P E n i j w) (fr : Former) (to : ℕ) (ef : fr ≡ formerOf w i) (et : to ≡ nextOf w j (n - j)) where
+  found-plan : (ps : List Piece) (q : Few) (r : Plan)
+      → Holding q (frontFrom P (fr .class) (fr .end) ps ++ closing P (lastClass (fr .class) ps) (lastEnd (fr .end) ps) (entries w to (n - to)))
+      → r ≡ planOf P E n (fr .from) to q (lastEnd (fr .end) ps) → Planned P n w (livesWith w n i j ps) r
+  found-plan ps q r g er =
+      let g1 = subst (λ (v : Former). Holding q (frontFrom P (v .class) (v .end) ps ++ closing P (lastClass (v .class) ps) (lastEnd (v .end) ps) (entries w to (n - to)))) ef g in
+      let f : Former = formerOf w i in
+      let g2 = subst (λ (v : ℕ). Holding q (frontFrom P (f .class) (f .end) ps ++ closing P (lastClass (f .class) ps) (lastEnd (f .end) ps) (entries w v (n - v)))) et g1 in
+      let e : r ≡ planOf P E n (f .from) (nextOf w j (n - j)) q (lastEnd (f .end) ps) =
+      er ∙ (ap (λ (v : Former). planOf P E n (v .from) to q (lastEnd (v .end) ps)) ef ∙ ap (λ (v : ℕ). planOf P E n (f .from) v q (lastEnd (f .end) ps)) et) in
+      subst⁻¹ (λ (v : Plan). Planned P n w (livesWith w n i j ps) v) e (planned-is h ps q g2)
+
+  pub found-sum : fr .end + P ≤ 2 ^ 64
+  found-sum = omega (arith, ap (λ (v : Former). v .end) ef, former-sum h)
+
+  pub found-low : fr .from ≤ to
+  found-low = omega (arith, ap (λ (v : Former). v .from) ef, from-to h)
+
+  pub found-high : to ≤ n
+  found-high = omega (arith, to-n h)
+
+  pub planned-without : (e q : Few) (r : Plan) → Holding e [] → Holding q (held e ++ closing P (fr .class) (fr .end) (entries w to (n - to)))
+      → r ≡ planOf P E n (fr .from) to q (fr .end) → Planned P n w (livesWith w n i j []) r
+  unfolding frontFrom lastClass lastEnd
+  planned-without e q r he hq er = found-plan [] q r (holding-more (closing P (fr .class) (fr .end) (entries w to (n - to))) he hq) er
+
+  pub planned-with : (x : Piece) (k : Class) (e g c q : Few) (r : Plan) → k ≡ classOf (x .status) → Holding e []
+      → Holding g (held e ++ gap P (fr .class) (fr .end) (x .address) k) → Holding c (held g ++ (x ∷ []))
+      → Holding q (held c ++ closing P k (behind x) (entries w to (n - to))) → r ≡ planOf P E n (fr .from) to q (behind x)
+      → Planned P n w (livesWith w n i j (x ∷ [])) r
+  unfolding frontFrom lastClass lastEnd
+  planned-with x k e g c q r ek he hg hc hq er =
+      let a = holding-more (closing P k (behind x) (entries w to (n - to))) (holding-more (x ∷ []) (holding-more (gap P (fr .class) (fr .end) (x .address) k) he hg) hc) hq in
+      found-plan (x ∷ []) q r (rw (← ek) a) er

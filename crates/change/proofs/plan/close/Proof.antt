@@ -1,0 +1,35 @@
+-- `change::plan::close` meets its contract: before a live entry a gap closes, and before nothing the tail.
+-- Assumes nothing.
+use borrow.Author.Needs.{needs}
+use Rattle.change.proofs.PlanLaws.{closing-next, closing-none}
+use Rattle.change.proofs.plan.close.Statement.{statement}
+use Rattle.change.proofs.plan.close.Tie as tie
+
+piece-at-requires : tie.Need-piece-at-requires
+piece-at-requires c κs = search needs
+
+class-of-requires : tie.Need-class-of-requires
+class-of-requires c κs = search needs
+
+with-gap-requires : tie.Need-with-gap-requires
+with-gap-requires c κs = search needs
+
+returns : tie.Need-returns
+returns c = rw (closing-next _ _ _ _ _ _ _ (c .before .before .before .if1 .taken) (c .before .before .piece-at .ensures), ← c .before .class-of .ensures) (c .with-gap .ensures)
+
+with-tail-requires : tie.Need-with-tail-requires
+with-tail-requires c κs = search needs
+
+returns-2 : tie.Need-returns-2
+returns-2 c = rw (closing-none _ _ _ _ _ _ (c .before .if1 .left)) (c .with-tail .ensures)
+
+pub close-spec : {M : Type 1} → statement M
+close-spec =
+    tie.close
+    (tie.spec
+    piece-at-requires
+    class-of-requires
+    with-gap-requires
+    returns
+    with-tail-requires
+    returns-2)

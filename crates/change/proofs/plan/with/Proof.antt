@@ -1,0 +1,57 @@
+-- `change::plan::with` meets its contract: the gap, the piece and what closes behind it are what the splice law asks for one new piece.
+-- Assumes nothing.
+use native.Mathlib.Omega.{arith}
+use borrow.Author.Needs.{needs}
+use Rattle.change.proofs.PlanLaws.{ends-fit, found-sum, found-low, found-high, planned-with}
+use Rattle.edit.proofs.FewLaws.{count-gap, count-more}
+use Rattle.pages.proofs.PageLaws.{page-pos}
+use Rattle.change.proofs.plan.with.Statement.{statement}
+use Rattle.change.proofs.plan.with.Tie as tie
+
+live-before-requires : tie.Need-live-before-requires
+live-before-requires c κs = let h = c .before .pre .0 in (omega (arith, h .low, h .high, h .room), ends-fit h)
+
+live-from-requires : tie.Need-live-from-requires
+live-from-requires c κs = search needs
+
+class-of-requires : tie.Need-class-of-requires
+class-of-requires c κs = search needs
+
+add-a : tie.Need-add-a
+add-a c = search needs
+
+none-requires : tie.Need-none-requires
+none-requires c κs = search needs
+
+with-gap-requires : tie.Need-with-gap-requires
+with-gap-requires c κs = let h = c .before .before .before .before .before .before .pre .0 in let s = found-sum h _ _ (c .before .before .before .before .live-before .ensures) (c .before .before .before .live-from .ensures) in
+    ((page-pos (h .page), s), omega (arith, c .none .ensures .count))
+
+with-requires : tie.Need-with-requires
+with-requires c κs = omega (arith, c .before .none .ensures .count, count-gap _ _ _ _ _ _ _ (c .with-gap .ensures))
+
+close-requires : tie.Need-close-requires
+close-requires c κs = let h = c .before .before .before .before .before .before .before .before .pre .0 in
+    (((page-pos (h .page), c .before .before .before .before .before .before .before .before .pre .1), omega (arith, c .before .before .none .ensures .count, count-gap _ _ _ _ _ _ _ (c .before .with-gap .ensures), count-more _ _ _ (c .with .ensures))), h .room)
+
+planned-requires : tie.Need-planned-requires
+planned-requires c κs = let h = c .before .before .before .before .before .before .before .before .before .pre .0 in let ef = c .before .before .before .before .before .before .before .live-before .ensures in let et = c .before .before .before .before .before .before .live-from .ensures in
+    (((page-pos (h .page), c .before .before .before .before .before .before .before .before .before .pre .1), (found-low h _ _ ef et, found-high h _ _ ef et)), (h .few, c .close .ensures .few))
+
+returns : tie.Need-returns
+returns c = planned-with (c .before .before .before .before .before .before .before .before .before .before .pre .0) _ _ (c .before .before .before .before .before .before .before .before .live-before .ensures) (c .before .before .before .before .before .before .before .live-from .ensures) _ _ _ _ _ _ _ (c .before .before .before .before .before .before .class-of .ensures) (c .before .before .before .before .none .ensures) (c .before .before .before .with-gap .ensures) (c .before .before .with .ensures) (c .before .close .ensures) (c .planned .ensures)
+
+pub with-spec : {M : Type 1} → statement M
+with-spec =
+    tie.close
+    (tie.spec
+    live-before-requires
+    live-from-requires
+    class-of-requires
+    add-a
+    none-requires
+    with-gap-requires
+    with-requires
+    close-requires
+    planned-requires
+    returns)

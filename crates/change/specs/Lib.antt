@@ -1,0 +1,2 @@
+-- What the contracts of `change` cite.
+pub mod Change
