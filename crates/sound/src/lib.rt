@@ -1,6 +1,6 @@
 // Whether a state and a lent table are sound together: the ranges, one pass over the entries that refuses at the first break of a local
 // rule, and the zero words behind them. Any four numbers and any slice get an answer, and no sum can overflow.
-mod walk;
+pub mod walk;
 
 ghost use mathlib.Core.Path.{_≡_};
 ghost use Prim.Native.Nat.{_*_, _≤_, _<_};

@@ -1,0 +1,158 @@
+-- Document 01's numbers for what a call answers, and what a call does to the state and to the lent words.
+--
+--   outOfRange .. sliceTooShort     the numbered refusals that calls on a space can give; success is 0
+--   noAddress                       the address answer of a refused call
+--   openNumber, allocateNumber, ..  the number of each case of each call's answer
+--   addressOf, countOf              the address answer, the count answer, of each case
+--
+--   soundb sp w             state and table are sound together, as `table` tests it
+--   entriesOf sp w          the entries of the table
+--   Outcome                 what a call leaves: its refusal number (0 if accepted), the state, and every word of the lent table
+--   refused k sp w          refused with k: the state and every word as they came
+--   refusing sp w t k o     refused with k if t holds, and else o
+--   settled sp w ps         the table and the end that the live pieces ps determine; 6, if the table has too little room for them
+--
+-- Assumes nothing.
+use mathlib.Core.Bool.{Bool, cond}
+use mathlib.Core.List.{List}
+use Prim.Native.Nat.{ℕ, _-_, _^_}
+use lib.Dec.{ltb}
+use lib.ListN.{length}
+use Rattle.pieces.specs.declared.Piece.{Piece}
+use Rattle.pieces.specs.Words.{entries, table}
+use Rattle.table.specs.Fill.{fill, endOf}
+use Rattle.table.specs.Sound.{capacity}
+use Rattle.table.specs.Local.{localb}
+use Rattle.space.specs.declared.Space.{Space}
+use Rattle.space.specs.declared.answers.OpenAnswer.{OpenAnswer}
+use Rattle.space.specs.declared.answers.AllocateAnswer.{AllocateAnswer}
+use Rattle.space.specs.declared.answers.ReleaseAnswer.{ReleaseAnswer}
+use Rattle.space.specs.declared.answers.ExtendAnswer.{ExtendAnswer}
+use Rattle.space.specs.declared.answers.ShortenAnswer.{ShortenAnswer}
+use Rattle.space.specs.declared.answers.ListAnswer.{ListAnswer}
+use Rattle.space.specs.declared.answers.OpenAnswer.the-variants as opening
+use Rattle.space.specs.declared.answers.AllocateAnswer.the-variants as allocating
+use Rattle.space.specs.declared.answers.ReleaseAnswer.the-variants as releasing
+use Rattle.space.specs.declared.answers.ExtendAnswer.the-variants as extending
+use Rattle.space.specs.declared.answers.ShortenAnswer.the-variants as shortening
+use Rattle.space.specs.declared.answers.ListAnswer.the-variants as listing
+
+-- ---- the numbers
+
+abbrev pub outOfRange : ℕ
+outOfRange = 1
+
+abbrev pub notSound : ℕ
+notSound = 2
+
+abbrev pub unknownCode : ℕ
+unknownCode = 3
+
+abbrev pub zeroAsked : ℕ
+zeroAsked = 4
+
+abbrev pub beyondLimit : ℕ
+beyondLimit = 5
+
+abbrev pub tableFull : ℕ
+tableFull = 6
+
+abbrev pub notLive : ℕ
+notLive = 7
+
+abbrev pub noRoomBehind : ℕ
+noRoomBehind = 8
+
+abbrev pub tooLittleLeft : ℕ
+tooLittleLeft = 9
+
+abbrev pub sliceTooShort : ℕ
+sliceTooShort = 10
+
+abbrev pub noAddress : ℕ
+noAddress = 2 ^ 64 - 1
+
+-- ---- each case of each answer
+
+abbrev pub openNumber : OpenAnswer → ℕ
+openNumber opening.Done = 0
+openNumber opening.OutOfRange = outOfRange
+
+abbrev pub allocateNumber : AllocateAnswer → ℕ
+allocateNumber (allocating.At a) = 0
+allocateNumber allocating.NotSound = notSound
+allocateNumber allocating.UnknownType = unknownCode
+allocateNumber allocating.NoBytes = zeroAsked
+allocateNumber allocating.BeyondLimit = beyondLimit
+allocateNumber allocating.TableFull = tableFull
+
+abbrev pub addressOf : AllocateAnswer → ℕ
+addressOf (allocating.At a) = a
+addressOf allocating.NotSound = noAddress
+addressOf allocating.UnknownType = noAddress
+addressOf allocating.NoBytes = noAddress
+addressOf allocating.BeyondLimit = noAddress
+addressOf allocating.TableFull = noAddress
+
+abbrev pub releaseNumber : ReleaseAnswer → ℕ
+releaseNumber releasing.Done = 0
+releaseNumber releasing.NotSound = notSound
+releaseNumber releasing.NotLive = notLive
+releaseNumber releasing.TableFull = tableFull
+
+abbrev pub extendNumber : ExtendAnswer → ℕ
+extendNumber extending.Done = 0
+extendNumber extending.NotSound = notSound
+extendNumber extending.NoBytes = zeroAsked
+extendNumber extending.NotLive = notLive
+extendNumber extending.NoRoomBehind = noRoomBehind
+extendNumber extending.BeyondLimit = beyondLimit
+extendNumber extending.TableFull = tableFull
+
+abbrev pub shortenNumber : ShortenAnswer → ℕ
+shortenNumber shortening.Done = 0
+shortenNumber shortening.NotSound = notSound
+shortenNumber shortening.NoBytes = zeroAsked
+shortenNumber shortening.NotLive = notLive
+shortenNumber shortening.TooLittleLeft = tooLittleLeft
+shortenNumber shortening.TableFull = tableFull
+
+abbrev pub listNumber : ListAnswer → ℕ
+listNumber (listing.Sections k) = 0
+listNumber listing.NotSound = notSound
+listNumber listing.UnknownManager = unknownCode
+listNumber listing.SliceTooShort = sliceTooShort
+
+abbrev pub countOf : ListAnswer → ℕ
+countOf (listing.Sections k) = k
+countOf listing.NotSound = 0
+countOf listing.UnknownManager = 0
+countOf listing.SliceTooShort = 0
+
+-- ---- state and words
+
+abbrev pub soundb : Space → List ℕ → Bool
+soundb sp w = localb (sp .page) (sp .limit) (sp .end) (sp .count) w
+
+abbrev pub entriesOf : Space → List ℕ → List Piece
+entriesOf sp w = entries w 0 (sp .count)
+
+pub record Outcome : Type 0 where
+  pub refusal : ℕ
+  pub state : Space
+  pub words : List ℕ
+
+abbrev pub refused : ℕ → Space → List ℕ → Outcome
+refused k sp w = record { refusal = k; state = sp; words = w }
+
+unfoldable pub refusing : Space → List ℕ → Bool → ℕ → Outcome → Outcome
+refusing sp w t k o = cond t (refused k sp w) o
+
+abbrev pub stateOf : Space → List Piece → Space
+stateOf sp ps =
+    record { page = sp .page; limit = sp .limit; end = endOf (sp .page) ps; count = length (fill (sp .page) ps) }
+
+unfoldable pub settled : Space → List ℕ → List Piece → Outcome
+settled sp w ps =
+    refusing sp w (ltb (capacity (length w)) (length (fill (sp .page) ps))) tableFull
+    (record { refusal = 0; state = stateOf sp ps; words = table (length w) (fill (sp .page) ps) })

@@ -1,0 +1,76 @@
+// Opening a space over a lent table.
+ghost use mathlib.Core.Path.{_≡_};
+ghost use lib.ListN.{length, replicate};
+ghost use Rattle.space.specs.Opening.{openingb, opened, defaultPage, defaultLimit};
+ghost use Rattle.space.specs.Said.{openSaid};
+use crate::Space;
+use crate::answers::OpenAnswer;
+use crate::answers::Opened;
+
+const DEFAULT_PAGE: u64 = 4096;
+
+const DEFAULT_LIMIT: u64 = sound::LARGEST_LIMIT;
+
+// Whether P, M and the table's length lie in their ranges.
+fn may_open(page: u64, limit: u64, len: usize) -> bool
+    ensures { λ r. ⌜ r ≡ openingb page limit len ⌝ }
+{
+    if !pages::is_page_size(page) {
+        return false;
+    }
+    if limit < page {
+        return false;
+    }
+    if sound::LARGEST_LIMIT < limit {
+        return false;
+    }
+    sound::is_table_length(len)
+}
+
+// Every word becomes 0.
+fn clear(table: &mut [u64])
+    ensures { λ _. ⌜ now (table .exit) ≡ replicate (length (now (table .entry))) 0 ⌝ }
+{
+    let mut i: usize = 0;
+    // The first i words are 0.
+    while i < table.len() {
+        table[i] = 0;
+        i = i + 1;
+    }
+}
+
+impl Space {
+    // An empty space over a table whose old words are not looked at.
+    pub fn open(page: u64, limit: u64, table: &mut [u64]) -> Opened
+        ensures { λ r. ⌜ openSaid r (now (table .exit)) ≡ opened page limit (now (table .entry)) ⌝ }
+    {
+        if !may_open(page, limit, table.len()) {
+            return Opened {
+                space: Space {
+                    page: 0,
+                    limit: 0,
+                    end: 0,
+                    count: 0,
+                },
+                answer: OpenAnswer::OutOfRange,
+            };
+        }
+        clear(table);
+        Opened {
+            space: Space {
+                page,
+                limit,
+                end: 0,
+                count: 0,
+            },
+            answer: OpenAnswer::Done,
+        }
+    }
+
+    // Pages of 4,096 bytes, and the largest limit.
+    pub fn open_default(table: &mut [u64]) -> Opened
+        ensures { λ r. ⌜ openSaid r (now (table .exit)) ≡ opened defaultPage defaultLimit (now (table .entry)) ⌝ }
+    {
+        Space::open(DEFAULT_PAGE, DEFAULT_LIMIT, table)
+    }
+}
