@@ -1,28 +1,28 @@
 -- Laws of the named piece.
 --
--- In this order: the test, after each comparison; a turn of the walk; the test and `Named`; an entry of a list; every right answer is the
+-- In this order: the test, after each comparison; a turn of the walk; the test and `Named`; every right answer is the
 -- walk's; there is one; the statements FindsRight and OneNamed of specs/Find.antt, and what a caller learns from an answer.
 --
 -- Assumes nothing.
-use mathlib.Core.Path.{_≡_, refl, sym, ap, subst, _∙_}
-use mathlib.Core.Bool.{Bool, true, false, not, _&&_}
-use mathlib.Core.List.{List, [], _∷_, _++_}
 use Prim.Native.Nat.{ℕ, suc, _+_, _-_, _≤_, _<_}
-use native.Mathlib.Omega.{arith}
+use mathlib.Core.Bool.{Bool, true, false, not, _&&_}
+use mathlib.Core.List.{List, [], _∷_}
+use mathlib.Core.Path.{_≡_, refl, sym, ap, subst, _∙_}
 use native.Mathlib.Nat.{zero-add, add-zero}
+use native.Mathlib.Omega.{arith}
 use lib.Dec.{eqb}
-use lib.ListN.{length, take, drop}
 use borrow.Author.Tests.{eq-eqb, ne-eqb, eqb-true}
+use Rattle.find.specs.Find.{namedb, findLive, Named, NoneNamed, FoundAt, Finds, FindsRight, OneNamed}
+use Rattle.find.specs.declared.Found.the-variants.{At, Missing}
+use Rattle.find.specs.declared.Found.{Found}
 use Rattle.pages.proofs.Numbers.{and-left, and-right, not-both, split}
-use Rattle.pieces.specs.declared.Status.{Status}
-use Rattle.pieces.specs.declared.Status.the-variants.{Live, Free}
-use Rattle.pieces.specs.declared.Piece.{Piece}
+use Rattle.pieces.proofs.PieceLaws.{entry-lt}
+use Rattle.pieces.proofs.WordLaws.{entries-next, entries-none}
 use Rattle.pieces.specs.Pieces.{classOf, freeb, EntryIs, entry-here, entry-later}
 use Rattle.pieces.specs.Words.{entryAt, entries}
-use Rattle.pieces.proofs.WordLaws.{entries-next, entries-none}
-use Rattle.find.specs.declared.Found.{Found}
-use Rattle.find.specs.declared.Found.the-variants.{At, Missing}
-use Rattle.find.specs.Find.{namedb, findLive, Named, NoneNamed, FoundAt, Finds, FindsRight, OneNamed}
+use Rattle.pieces.specs.declared.Piece.{Piece}
+use Rattle.pieces.specs.declared.Status.the-variants.{Live, Free}
+use Rattle.pieces.specs.declared.Status.{Status}
 
 -- ---- the test
 
@@ -87,16 +87,6 @@ named-false a z x n = go (namedb a z x) refl
 
 false-named : (a z : ℕ) (x : Piece) → namedb a z x ≡ false → Named a z x → ⊥
 false-named a z x e h = not-both (true-named a z x h) e
-
--- ---- an entry of a list
-
-pub entry-lt : {es : List Piece} {i : ℕ} {x : Piece} → EntryIs es i x → i < length es
-entry-lt entry-here = omega arith
-entry-lt (entry-later e) = omega (arith, entry-lt e)
-
-pub entry-split : {es : List Piece} {i : ℕ} {x : Piece} → EntryIs es i x → es ≡ take i es ++ (x ∷ drop (suc i) es)
-entry-split entry-here = refl
-entry-split (entry-later {y = y} e) = ap (λ (l : List Piece). y ∷ l) (entry-split e)
 
 -- ---- every right answer is the walk's
 

@@ -60,6 +60,16 @@ border-zero P = record { none-over = zero-mod P }
 border-multiple : (P q : ℕ) → Border P (q * P)
 border-multiple P q = record { none-over = mul-mod-left q P }
 
+border-over : {P x : ℕ} → Border P x → (y : ℕ) → (x + y) % P ≡ y % P
+border-over {P} {x} b y =
+    ap (λ (v : ℕ). (v + y) % P) (sym (multiple P x b)) ∙ mul-add-mod-self-right (x / P) P y
+
+pub border-sum : {P x y : ℕ} → Border P x → Border P y → Border P (x + y)
+border-sum {y = y} b c = record { none-over = border-over b y ∙ c .none-over }
+
+pub border-difference : {P x : ℕ} (y : ℕ) → Border P x → Border P (x + y) → Border P y
+border-difference y b c = record { none-over = sym (border-over b y) ∙ c .none-over }
+
 module _ (P : ℕ) (pos : 0 < P) where
   pub down-le : (a : ℕ) → down P a ≤ a
   unfolding down

@@ -1,18 +1,21 @@
 -- Laws of classes, statuses and kinds.
 --
--- In this order: a class is small or large; what classes and statuses cannot be; tests; a kind and its status, both ways.
+-- In this order: a class is small or large; what classes and statuses cannot be; tests; a kind and its status, both ways; an entry of a list.
 --
 -- Assumes nothing.
 use Prim.Native.Nat.{ℕ, zero, suc, _≤_, _<_}
 use mathlib.Core.Bool.{true, false}
-use mathlib.Core.Path.{_≡_, refl, sym}
+use mathlib.Core.List.{List, _∷_, _++_}
+use mathlib.Core.Path.{_≡_, refl, sym, ap}
 use native.Mathlib.Omega.{arith}
 use lib.Dec.{leb}
+use lib.ListN.{length, take, drop}
 use borrow.Author.Tests.{le-leb, lt-leb, leb-true}
 use Rattle.pages.proofs.Numbers.{and-left, and-right, both, not-both}
-use Rattle.pieces.specs.Pieces.{Small, metadata, raw, IsFree, is-free, sameClass, kindOf, Kind, kindb, statusOf}
+use Rattle.pieces.specs.Pieces.{EntryIs, entry-here, entry-later, Small, metadata, raw, IsFree, is-free, sameClass, kindOf, Kind, kindb, statusOf}
 use Rattle.pieces.specs.declared.Class.the-variants.{SmallMetadata, SmallRaw, Large}
 use Rattle.pieces.specs.declared.Class.{Class}
+use Rattle.pieces.specs.declared.Piece.{Piece}
 use Rattle.pieces.specs.declared.Status.the-variants.{Live, Free}
 use Rattle.pieces.specs.declared.Status.{Status}
 
@@ -98,3 +101,13 @@ kind-status (suc (suc (suc (suc zero)))) h = refl
 kind-status (suc (suc (suc (suc (suc zero))))) h = refl
 kind-status (suc (suc (suc (suc (suc (suc zero)))))) h = refl
 kind-status (suc (suc (suc (suc (suc (suc (suc k))))))) h = absurd (omega (arith, h .largest))
+
+-- ---- an entry of a list
+
+pub entry-lt : {es : List Piece} {i : ℕ} {x : Piece} → EntryIs es i x → i < length es
+entry-lt entry-here = omega arith
+entry-lt (entry-later e) = omega (arith, entry-lt e)
+
+pub entry-split : {es : List Piece} {i : ℕ} {x : Piece} → EntryIs es i x → es ≡ take i es ++ (x ∷ drop (suc i) es)
+entry-split entry-here = refl
+entry-split (entry-later {y = y} e) = ap (λ (l : List Piece). y ∷ l) (entry-split e)

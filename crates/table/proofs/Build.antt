@@ -10,7 +10,6 @@ use Prim.Native.Nat.{ℕ, _+_, _-_, _≤_, _<_, min, max}
 use mathlib.Core.List.{List, [], _∷_, _++_, append-nil, append-assoc}
 use mathlib.Core.Path.{_≡_, refl, sym, _∙_}
 use native.Mathlib.Omega.{arith}
-use Rattle.pages.proofs.Numbers.{split}
 use Rattle.pages.proofs.PageLaws.{decBorder, down-le, down-lt, down-border, up-border, up-ge, up-lt, down-of, up-of, down-most, up-down}
 use Rattle.pages.specs.Pages.{down, up, Border}
 use Rattle.pieces.proofs.PieceLaws.{View, small, large, view, large-small, small-large, live-free, not-free}
@@ -21,13 +20,9 @@ use Rattle.pieces.specs.declared.Piece.{Piece}
 use Rattle.pieces.specs.declared.Status.the-variants.{Live, Free}
 use Rattle.pieces.specs.declared.Status.{Status}
 use Rattle.table.proofs.Chain.{Entry, ChainFrom, stop, step, Chain}
-use Rattle.table.proofs.GapLaws.{free-none, free-cons, lo-small, lo-large, hi-small, hi-large, gap-is, apart-le}
-use Rattle.table.specs.Fill.{lives, free, lo, hi, gap, tail, fillFrom, fill, lastEnd, endOf, Within, Whole, Apart, border-between, one-family, GoodFrom, none, next, Good}
-
-lives-free : (c : Class) (a b : ℕ) (es : List Piece) → lives (free c a b ++ es) ≡ lives es
-unfolding lives
-lives-free c a b es =
-    split b a (λ h. rw (free-none c a b h)) (λ h. rw (free-cons c a b h))
+use Rattle.table.proofs.ChainLaws.{entry-live, free-chain, lives-free}
+use Rattle.table.proofs.GapLaws.{lo-small, lo-large, hi-small, hi-large, gap-is, apart-le}
+use Rattle.table.specs.Fill.{lives, free, lo, hi, gap, tail, fillFrom, fill, lastEnd, endOf, Within, Apart, border-between, one-family, GoodFrom, none, next, Good}
 
 lives-gap : (P : ℕ) (k : Class) (a b : ℕ) (m : Class) (es : List Piece) → lives (gap P k a b m ++ es) ≡ lives es
 lives-gap P k a b m es = rw (gap-is P k a b m refl refl) (simp (append-assoc, lives-free))
@@ -140,25 +135,6 @@ module _ (P : ℕ) (pos : 0 < P) where
 
   -- ---- one entry of a gap, if there is one
 
-  put : {E : ℕ} {s : Status} (c : Class) (a b : ℕ) (es : List Piece) → a ≤ b → (a < b → Entry P s a (b - a) (Free c) es)
-      → (a < b → ChainFrom P E (Free c) b es) → (a ≡ b → ChainFrom P E s b es) → ChainFrom P E s a (free c a b ++ es)
-  put c a b es l y r z =
-      split b a (λ h. let e : a ≡ b = omega arith in rw (free-none c a b h, e) (z e))
-      (λ h. let e : a + (b - a) ≡ b = omega arith in rw (free-cons c a b h) (step (y h) (rw e (r h))))
-
-  entry-live : {s : Status} {m : Class} {b n : ℕ} {es : List Piece} → Whole P m b n → (¬ Border P b → classOf s ≡ m) → Entry P s b n (Live m) es
-  entry-live {m = m} w f =
-      record {
-        some = w .some;
-        small = w .small;
-        aligned = λ q. w .aligned (cc);
-        whole = λ q. w .whole (cc);
-        family = f;
-        merged = λ nb x y. not-free y;
-        large-merged = λ x y. live-free y;
-        cut = λ x y. absurd (live-free y);
-      }
-
   -- a free small entry at a border, or behind a live one of its class
   entry-small : {s : Status} {c : Class} {a n : ℕ} {es : List Piece} → Small c → 0 < n → Within P a n
       → (¬ Border P a → classOf s ≡ c) → (¬ Border P a → IsFree s → ⊥) → Entry P s a n (Free c) es
@@ -201,7 +177,7 @@ module _ (P : ℕ) (pos : 0 < P) where
       (go : (s : Status) → (¬ Border P b → classOf s ≡ m) → ChainFrom P E s b es) where
     put-next : {s : Status} {l h : ℕ} → High b m l h → (h ≡ b → ¬ Border P b → classOf s ≡ m) → ChainFrom P E s h (free m h b ++ es)
     put-next {s} {l} {h} f g =
-        put m h b es (f .h-b)
+        free-chain m h b es (f .h-b)
         (λ x. entry-small (f .own x) (omega arith) (record { under = omega (arith, f .page); in-page = omega (arith, f .page, down-of P pos (f .at x)) }) (λ nb. absurd (nb (f .at x))) (λ nb i. nb (f .at x)))
         (λ x. go (Free m) (λ nb. refl))
         (λ e. go s (g e))
@@ -209,7 +185,7 @@ module _ (P : ℕ) (pos : 0 < P) where
     put-large : {s : Status} {l h : ℕ} → High b m l h → (l < b → ¬ Border P l → classOf s ≡ Large) → (l < b → ¬ Border P l → IsFree s → ⊥)
         → (s ≡ Free Large → ⊥) → (l ≡ b → ¬ Border P b → classOf s ≡ m) → ChainFrom P E s l (free Large l h ++ (free m h b ++ es))
     put-large {s} {l} {h} f c i u g =
-        put Large l h (free m h b ++ es) (f .l-h)
+        free-chain Large l h (free m h b ++ es) (f .l-h)
         (λ x. entry-large (omega arith) (c (omega (arith, f .h-b))) (i (omega (arith, f .h-b))) u (λ q. absurd (filled (append-right (free m h b) es q))))
         (λ x. put-next f (λ e nb. absurd (nb (rw e at (f .large-end x)))))
         (λ e. put-next f (λ e' nb. g (e ∙ e') nb))
@@ -219,7 +195,7 @@ module _ (P : ℕ) (pos : 0 < P) where
         let f : Low k a b m (lo P k a b) = low (view k) d in
         let h : High b m (lo P k a b) (hi P (lo P k a b) b m) = high (lo P k a b) b (view m) (f .l-b) (f .below) al in
         rw (gap-is P k a b m refl refl, append-assoc, append-assoc)
-        (put k a (lo P k a b) (free Large (lo P k a b) (hi P (lo P k a b) b m) ++ (free m (hi P (lo P k a b) b m) b ++ es)) (f .a-l)
+        (free-chain k a (lo P k a b) (free Large (lo P k a b) (hi P (lo P k a b) b m) ++ (free m (hi P (lo P k a b) b m) b ++ es)) (f .a-l)
         (λ x. entry-small (f .own x) (omega arith) (within-own x (f .reach)) (λ nb. refl) (λ nb i. not-free i))
         (λ x. put-large h (λ y nb. absurd (nb (f .before x y))) (λ y nb i. nb (f .before x y)) (λ q. small-large (f .own x) (cc)) (f .meet))
         (λ e. put-large h (f .clear e) (λ y nb i. not-free i) live-free (f .meet)))
@@ -233,7 +209,7 @@ module _ (P : ℕ) (pos : 0 < P) where
   put-tail : (k : Class) (a : ℕ) → ChainFrom P (up P a) (Live k) a (free k a (up P a))
   put-tail k a =
       rw (← (append-nil (free k a (up P a))))
-      (put k a (up P a) [] (up-ge P pos a) (entry-tail (view k)) (λ x. stop refl (up-border P pos a)) (λ e. stop refl (up-border P pos a)))
+      (free-chain k a (up P a) [] (up-ge P pos a) (entry-tail (view k)) (λ x. stop refl (up-border P pos a)) (λ e. stop refl (up-border P pos a)))
 
   cons-filled : (x : Piece) (xs : List Piece) → x ∷ xs ≡ [] → ⊥
   cons-filled x xs q = let z : _≡_ {A = ℕ} 0 1 = cc in omega arith

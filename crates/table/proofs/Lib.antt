@@ -1,6 +1,7 @@
 -- The laws that the proofs of this and of the higher crates cite.
 pub mod GapLaws
 pub mod Chain
+pub mod ChainLaws
 pub mod Canon
 pub mod Build
 pub mod Literal

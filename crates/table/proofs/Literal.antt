@@ -22,6 +22,7 @@ use Rattle.pieces.specs.declared.Piece.{Piece}
 use Rattle.pieces.specs.declared.Status.the-variants.{Live, Free}
 use Rattle.pieces.specs.declared.Status.{Status}
 use Rattle.table.proofs.Chain.{Entry, ChainFrom, stop, step, Chain}
+use Rattle.table.proofs.ChainLaws.{chain-le}
 use Rattle.table.specs.Fill.{Within}
 use Rattle.table.specs.Sound.{Tiles, tiled, tile, Touches, LiveIn, Neighbours, here, later, Last, last-one, last-later, SoundEntries}
 
@@ -101,10 +102,6 @@ module _ (P : ℕ) (pos : 0 < P) where
   tiles-of : {E : ℕ} {s : Status} {a : ℕ} {es : List Piece} → ChainFrom P E s a es → Tiles E a es
   tiles-of (stop e b) = tiled e
   tiles-of (step y r) = tile (tiles-of r)
-
-  ends-whole : {E : ℕ} {s : Status} {a : ℕ} {es : List Piece} → ChainFrom P E s a es → Border P E
-  ends-whole (stop e b) = rw e at b
-  ends-whole (step y r) = ends-whole r
 
   -- what holds of each entry by itself
   record Each (x : Piece) : Type 0 where
@@ -275,13 +272,9 @@ module _ (P : ℕ) (pos : 0 < P) where
 
   -- ---- there is no entry exactly when the file is empty
 
-  end-ge : {E : ℕ} {s : Status} {a : ℕ} {es : List Piece} → ChainFrom P E s a es → a ≤ E
-  end-ge (stop e b) = omega arith
-  end-ge (step y r) = omega (arith, end-ge r)
-
   pub no-entry : {E : ℕ} → Chain P E [] → E ≡ 0
   no-entry (stop e b) = sym e
 
   pub no-byte : {E : ℕ} {es : List Piece} → Chain P E es → E ≡ 0 → es ≡ []
   no-byte (stop e b) q = refl
-  no-byte (step y r) q = absurd (omega (arith, end-ge r, y .some))
+  no-byte (step y r) q = absurd (omega (arith, chain-le r, y .some))

@@ -25,6 +25,7 @@ use Rattle.pieces.specs.declared.Piece.{Piece}
 use Rattle.pieces.specs.declared.Status.the-variants.{Live, Free}
 use Rattle.pieces.specs.declared.Status.{Status}
 use Rattle.table.proofs.Chain.{Entry, ChainFrom, stop, step}
+use Rattle.table.proofs.ChainLaws.{chain-le}
 use Rattle.table.specs.Fill.{Within}
 use Rattle.table.specs.Local.{tableLengthb, rangesb, kindsb, zerosb, withinb, shapeb, largeFreeb, besideb, cutb, entryb, noneb, chainb}
 use Rattle.table.specs.Sound.{largestLimit, leastCapacity, largestCapacity, capacity, TableLength, Ranges}
@@ -231,15 +232,11 @@ chain-true P E s a (x ∷ es) b h =
     let q : x ≡ piece a (x .size) (x .status) = ap (λ (v : ℕ). piece v (x .size) (x .status)) (y .here) in
     subst⁻¹ (λ (v : Piece). ChainFrom P E s a (v ∷ es)) q (step (y .entry) r)
 
-pub chain-end : {P E : ℕ} {s : Status} {a : ℕ} {es : List Piece} → ChainFrom P E s a es → a ≤ E
-chain-end (stop e b) = omega arith
-chain-end (step y r) = omega (arith, chain-end r)
-
 pub true-chain : {P E : ℕ} {s : Status} {a : ℕ} {es : List Piece} → ChainFrom P E s a es → chainb P E s a es ≡ true
 unfolding chainb
 true-chain {P} {E} (stop {a = a} e b) = eq-eqb a E e
 true-chain {P} {E} (step {s = s} {t = t} {a = a} {n = z} {es = es} y r) =
-    both _ _ (true-entry P E s a z t es y (chain-end r)) (true-chain r)
+    both _ _ (true-entry P E s a z t es y (chain-le r)) (true-chain r)
 
 -- ---- state and slice
 

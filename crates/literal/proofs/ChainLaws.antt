@@ -1,0 +1,138 @@
+-- Chains that change in one place.
+--
+-- In this order: what a free entry of a chain has to show; what may follow what, and where a chain ends; the
+-- entries before a place, the nearest first (Upto), and how they join the entries from there on; live pieces; `file-of-chain`.
+--
+-- Assumes nothing.
+use Prim.Native.Nat.{ℕ, _+_, _-_, _<_}
+use mathlib.Core.List.{List, [], _∷_, _++_, append-nil, reverse, reverseAux, reverseAux-eq, cons≢nil}
+use mathlib.Core.Path.{_≡_, refl, sym, ap, _∙_}
+use native.Mathlib.Omega.{arith}
+use Rattle.pages.specs.Pages.{Border}
+use Rattle.pieces.proofs.PieceLaws.{live-free, not-free}
+use Rattle.pieces.specs.Pieces.{piece, classOf, Small, IsFree, is-free}
+use Rattle.pieces.specs.declared.Class.the-variants.{Large}
+use Rattle.pieces.specs.declared.Class.{Class}
+use Rattle.pieces.specs.declared.Piece.{Piece}
+use Rattle.pieces.specs.declared.Status.the-variants.{Live, Free}
+use Rattle.pieces.specs.declared.Status.{Status}
+use Rattle.rules.proofs.SpliceLaws.{lives-append}
+use Rattle.table.proofs.Canon.{canonical}
+use Rattle.table.proofs.Chain.{Entry, ChainFrom, stop, step, Chain}
+use Rattle.table.proofs.ChainLaws.{chain-le, lives-free}
+use Rattle.table.specs.Fill.{lives, free, Within}
+use Rattle.literal.specs.Statements.{FileOf}
+
+-- ---- entries
+
+-- a free entry of class c and a neighbour of status s that meet at a do not have to merge
+pub record Alone (P : ℕ) (s : Status) (a : ℕ) (c : Class) : Type 0 where
+  pub small : ¬ Border P a → IsFree s → ⊥
+  pub large : s ≡ Free Large → c ≡ Large → ⊥
+
+pub alone-live : {P b : ℕ} {k c : Class} → Alone P (Live k) b c
+alone-live = record { small = λ nb x. not-free x; large = λ x y. live-free x }
+
+-- before a free entry
+pub alone-before : {P a z : ℕ} {s : Status} {k : Class} {es : List Piece} → Entry P s a z (Free k) es → Alone P s a k
+alone-before e = record { small = λ nb x. e .merged nb x is-free; large = λ x y. e .large-merged x (ap Free y) }
+
+pub entry-free : {P : ℕ} {s : Status} {a z : ℕ} {c : Class} {es : List Piece} → 0 < z → (Small c → Within P a z)
+    → (¬ Border P a → classOf s ≡ c) → Alone P s a c → (es ≡ [] → c ≡ Large → z < P) → Entry P s a z (Free c) es
+entry-free p w f g h =
+    record {
+      some = p;
+      small = w;
+      aligned = λ q. absurd (live-free (sym q));
+      whole = λ q. absurd (live-free (sym q));
+      family = f;
+      merged = λ nb x y. g .small nb x;
+      large-merged = λ x y. g .large x (cc);
+      cut = λ x y. h x (cc);
+    }
+
+-- the same entry before other entries
+pub entry-before : {P : ℕ} {s t : Status} {a z : ℕ} {es : List Piece} (ys : List Piece) → Entry P s a z t es
+    → (ys ≡ [] → t ≡ Free Large → z < P) → Entry P s a z t ys
+entry-before ys e h =
+    record {
+      some = e .some;
+      small = e .small;
+      aligned = e .aligned;
+      whole = e .whole;
+      family = e .family;
+      merged = e .merged;
+      large-merged = e .large-merged;
+      cut = h;
+    }
+
+-- the same entry behind another one
+pub entry-behind : {P : ℕ} {s t : Status} {a z : ℕ} {es : List Piece} (u : Status) → Entry P s a z t es
+    → (¬ Border P a → classOf u ≡ classOf t) → (¬ Border P a → IsFree u → IsFree t → ⊥) → (u ≡ Free Large → t ≡ Free Large → ⊥)
+    → Entry P u a z t es
+entry-behind u e f g h =
+    record {
+      some = e .some;
+      small = e .small;
+      aligned = e .aligned;
+      whole = e .whole;
+      family = f;
+      merged = g;
+      large-merged = h;
+      cut = e .cut;
+    }
+
+-- ---- what may follow what
+
+-- what follows a free entry may follow a live one of its class
+pub chain-live : {P E : ℕ} {c : Class} {a : ℕ} {es : List Piece} → ChainFrom P E (Free c) a es → ChainFrom P E (Live c) a es
+chain-live (stop q b) = stop q b
+chain-live {c = c} (step e r) =
+    step (entry-behind (Live c) e (e .family) (λ nb x y. not-free x) (λ x y. live-free x)) r
+
+-- what starts at a border may follow any entry that is not free large
+pub chain-border : {P E : ℕ} {s : Status} {a : ℕ} {es : List Piece} (u : Status) → Border P a → (u ≡ Free Large → ⊥)
+    → ChainFrom P E s a es → ChainFrom P E u a es
+chain-border u b h (stop q b') = stop q b'
+chain-border u b h (step e r) = step (entry-behind u e (λ nb. absurd (nb b)) (λ nb x y. nb b) (λ x y. h x)) r
+
+pub chain-end : {P E : ℕ} {s : Status} {a : ℕ} {es : List Piece} → ChainFrom P E s a es → a ≡ E → es ≡ []
+chain-end (stop q b) e = refl
+chain-end (step y r) e = absurd (omega (arith, chain-le r, y .some))
+
+pub chain-last : {P E : ℕ} {s : Status} {a : ℕ} {es : List Piece} → ChainFrom P E s a es → es ≡ [] → a ≡ E
+chain-last (stop q b) e = q
+chain-last (step y r) e = absurd (cons≢nil e)
+
+-- ---- the entries before a place
+
+-- the status of the nearest entry; outside the table all is as beside a live large one
+abbrev pub nearest : List Piece → Status
+nearest [] = Live Large
+nearest (x ∷ xs) = x .status
+
+-- ls, the nearest first, are the entries of a table before a
+pub data Upto (P : ℕ) : ℕ → List Piece → Type 0 where
+  start : Upto P 0 []
+  add : {a z : ℕ} {t : Status} {ls es : List Piece} → Upto P a ls → Entry P (nearest ls) a z t es
+      → Upto P (a + z) (piece a z t ∷ ls)
+
+pub upto-chain : {P E a : ℕ} {ls ys : List Piece} → Upto P a ls → ChainFrom P E (nearest ls) a ys
+    → (ys ≡ [] → nearest ls ≡ Free Large → ⊥) → Chain P E (reverseAux ls ys)
+upto-chain start r h = r
+upto-chain {ys = ys} (add u e) r h = upto-chain u (step (entry-before ys e (λ x y. absurd (h x y))) r) (λ x y. cons≢nil x)
+
+-- ---- live pieces
+
+pub lives-only-free : (c : Class) (a b : ℕ) → lives (free c a b) ≡ []
+unfolding lives
+lives-only-free c a b = ap lives (sym (append-nil (free c a b))) ∙ lives-free c a b []
+
+pub lives-around : (ls ys : List Piece) → lives (reverseAux ls ys) ≡ lives (reverse ls) ++ lives ys
+lives-around ls ys = ap lives (reverseAux-eq ls ys) ∙ lives-append (reverse ls) ys
+
+-- ---- a table is determined by its live pieces
+
+pub file-of-chain : {P E : ℕ} {es : List Piece} (ps : List Piece) → 0 < P → Chain P E es → lives es ≡ ps
+    → FileOf P (record { entries = es; end = E }) ps
+file-of-chain ps pos c e = let h = canonical pos c in record { entries = rw e at (h .0); ends = rw e at (h .1) }

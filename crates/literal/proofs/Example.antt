@@ -1,0 +1,59 @@
+-- The rules compute: four steps of document 01's run with P = 512, each from the table before it.
+--
+--   step-five         a small request without a free small entry gets a page at the end, not the misaligned rest of the large piece
+--   step-six          a released large piece merges with kind 6 behind it
+--   step-eleven       an emptied small page becomes kind 6, merges, and its whole page is cut; the part page stays
+--   step-twelve       a released large piece at the end, and the two whole pages that it leaves, are cut
+--
+-- Assumes nothing.
+use mathlib.Core.Path.{_≡_, refl}
+use mathlib.Core.List.{List, [], _∷_, _++_}
+use Prim.Native.Nat.{ℕ}
+use Rattle.pages.specs.Pages.{up}
+use Rattle.pieces.specs.declared.Class.the-variants.{SmallMetadata, SmallRaw, Large}
+use Rattle.pieces.specs.declared.Status.the-variants.{Live, Free}
+use Rattle.pieces.specs.declared.Piece.{Piece}
+use Rattle.pieces.specs.Pieces.{piece}
+use Rattle.table.specs.Fill.{free}
+use Rattle.choose.specs.Choose.{roomIn, fitsIn, bestOf, best}
+use Rattle.choose.specs.Spot.{largeSpot, smallSpot, spotOf}
+use Rattle.rules.specs.Edits.{Name}
+use Rattle.literal.specs.Literal.{File, atEnd, largeRule, smallPage, allocatedSmall, allocated}
+use Rattle.literal.specs.Literal.{merges, mergedBefore, mergedBehind, merged, emptied, cut, releasedAt, releasedFrom, released}
+
+abbrev name : ℕ → ℕ → Name
+name a z = record { address = a; size = z }
+
+abbrev file : List Piece → ℕ → File
+file es E = record { entries = es; end = E }
+
+-- the first four entries, from step 3 on
+abbrev four : List Piece
+four = piece 0 96 (Live SmallMetadata) ∷ piece 96 416 (Live SmallMetadata) ∷ piece 512 100 (Live SmallRaw) ∷ piece 612 412 (Free SmallRaw) ∷ []
+
+abbrev afterFour : List Piece
+afterFour = four ++ (piece 1024 700 (Live Large) ∷ piece 1724 324 (Free Large) ∷ [])
+
+abbrev afterFive : List Piece
+afterFive = afterFour ++ (piece 2048 10 (Live SmallMetadata) ∷ piece 2058 502 (Free SmallMetadata) ∷ [])
+
+abbrev afterTen : List Piece
+afterTen =
+    four ++ (piece 1024 724 (Live Large) ∷ piece 1748 300 (Free Large) ∷ piece 2048 10 (Live SmallMetadata) ∷ piece 2058 502 (Free SmallMetadata) ∷ [])
+
+step-five : allocated 512 2048 SmallMetadata 10 afterFour (spotOf 512 SmallMetadata 10 afterFour) ≡ file afterFive 2560
+unfolding allocated allocatedSmall largeRule atEnd smallPage free up spotOf smallSpot largeSpot best bestOf fitsIn roomIn
+step-five = refl
+
+step-six : released 512 2560 (name 1024 700) afterFive
+    ≡ file (four ++ (piece 1024 1024 (Free Large) ∷ piece 2048 10 (Live SmallMetadata) ∷ piece 2058 502 (Free SmallMetadata) ∷ [])) 2560
+unfolding released releasedFrom releasedAt cut emptied merged mergedBefore mergedBehind merges free
+step-six = refl
+
+step-eleven : released 512 2560 (name 2048 10) afterTen ≡ file (four ++ (piece 1024 724 (Live Large) ∷ piece 1748 300 (Free Large) ∷ [])) 2048
+unfolding released releasedFrom releasedAt cut emptied merged mergedBefore mergedBehind merges free
+step-eleven = refl
+
+step-twelve : released 512 2048 (name 1024 724) (four ++ (piece 1024 724 (Live Large) ∷ piece 1748 300 (Free Large) ∷ [])) ≡ file four 1024
+unfolding released releasedFrom releasedAt cut emptied merged mergedBefore mergedBehind merges free
+step-twelve = refl

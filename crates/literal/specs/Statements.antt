@@ -1,0 +1,51 @@
+-- What is proved of document 01's rules as they stand in Literal.antt: they give the table and the end that the calls promise. Statements
+-- alone: each is proved in proofs/Theorems.antt, under its name in small letters.
+--
+--   Request P k s       s bytes of class k can be asked for: 's >= P, large', 's < P, small'
+--   FileOf P f ps       the file f is the one that the live pieces ps determine
+--   Allocating          of a sound table: allocating at the place that the rule chooses is to insert the piece, then to fill
+--   Releasing           of a sound table: releasing a live piece is to remove it, then to fill
+--   AllocatingIn, ReleasingIn   the same of given entries
+--
+-- Assumes nothing.
+use mathlib.Core.Path.{_≡_}
+use mathlib.Core.Bool.{true}
+use mathlib.Core.List.{List, List·Memᴰ}
+use Prim.Native.Nat.{ℕ, _≤_, _<_}
+use Rattle.pieces.specs.declared.Class.{Class}
+use Rattle.pieces.specs.declared.Class.the-variants.{Large}
+use Rattle.pieces.specs.declared.Status.the-variants.{Live}
+use Rattle.pieces.specs.declared.Piece.{Piece}
+use Rattle.pieces.specs.Pieces.{piece, Small}
+use Rattle.pieces.specs.Words.{entries}
+use Rattle.table.specs.Fill.{lives, fill, endOf}
+use Rattle.table.specs.Sound.{Sound}
+use Rattle.choose.specs.Spot.{spotOf, spotAddress}
+use Rattle.rules.specs.Edits.{Name, names, insert, remove}
+use Rattle.literal.specs.Literal.{File, allocated, released}
+
+pub record Request (P : ℕ) (k : Class) (s : ℕ) : Type 0 where
+  pub some : 1 ≤ s
+  pub small : Small k → s < P
+  pub large : k ≡ Large → P ≤ s
+
+pub record FileOf (P : ℕ) (f : File) (ps : List Piece) : Type 0 where
+  pub entries : f .entries ≡ fill P ps
+  pub ends : f .end ≡ endOf P ps
+
+abbrev pub AllocatingIn : ℕ → ℕ → Class → ℕ → List Piece → Type 0
+AllocatingIn P E k s es =
+    let q = spotOf P k s es in
+    FileOf P (allocated P E k s es q) (insert (piece (spotAddress E q) s (Live k)) (lives es))
+
+abbrev pub Allocating : Type 0
+Allocating =
+    (P M E n : ℕ) (w : List ℕ) (k : Class) (s : ℕ) → Sound P M E n w → Request P k s → AllocatingIn P E k s (entries w 0 n)
+
+abbrev pub ReleasingIn : ℕ → ℕ → Name → List Piece → Type 0
+ReleasingIn P E n es = FileOf P (released P E n es) (remove n (lives es))
+
+abbrev pub Releasing : Type 0
+Releasing =
+    (P M E n : ℕ) (w : List ℕ) (name : Name) (x : Piece) (k : Class) → Sound P M E n w
+    → List·Memᴰ x (entries w 0 n) → x .status ≡ Live k → names name x ≡ true → ReleasingIn P E name (entries w 0 n)

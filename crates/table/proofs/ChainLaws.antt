@@ -1,0 +1,56 @@
+-- Laws of a chain.
+--
+--   entry-live          what a live entry of a chain has to show
+--   free-chain          a free entry before a chain, if there is a byte for it
+--   chain-le, chain-border-end     a chain starts at or below its end, and ends at a border
+--   lives-free          a free entry is not live
+--
+-- Assumes nothing.
+use Prim.Native.Nat.{ℕ, _+_, _-_, _≤_, _<_}
+use mathlib.Core.List.{List, _++_}
+use mathlib.Core.Path.{_≡_}
+use native.Mathlib.Omega.{arith}
+use Rattle.pages.proofs.Numbers.{split}
+use Rattle.pages.specs.Pages.{Border}
+use Rattle.pieces.proofs.PieceLaws.{live-free, not-free}
+use Rattle.pieces.specs.Pieces.{classOf}
+use Rattle.pieces.specs.declared.Class.{Class}
+use Rattle.pieces.specs.declared.Piece.{Piece}
+use Rattle.pieces.specs.declared.Status.the-variants.{Live, Free}
+use Rattle.pieces.specs.declared.Status.{Status}
+use Rattle.table.proofs.Chain.{Entry, ChainFrom, stop, step}
+use Rattle.table.proofs.GapLaws.{free-none, free-cons}
+use Rattle.table.specs.Fill.{lives, free, Whole}
+
+pub entry-live : {P : ℕ} {s : Status} {a z : ℕ} {k : Class} {es : List Piece} → Whole P k a z → (¬ Border P a → classOf s ≡ k)
+    → Entry P s a z (Live k) es
+entry-live w f =
+    record {
+      some = w .some;
+      small = w .small;
+      aligned = λ q. w .aligned (cc);
+      whole = λ q. w .whole (cc);
+      family = f;
+      merged = λ nb x y. not-free y;
+      large-merged = λ x y. live-free y;
+      cut = λ x y. absurd (live-free y);
+    }
+
+-- a free entry from a to b, if there is a byte between them, before a chain from b on
+pub free-chain : {P E : ℕ} {s : Status} (c : Class) (a b : ℕ) (es : List Piece) → a ≤ b → (a < b → Entry P s a (b - a) (Free c) es)
+    → (a < b → ChainFrom P E (Free c) b es) → (a ≡ b → ChainFrom P E s b es) → ChainFrom P E s a (free c a b ++ es)
+free-chain c a b es l y r z =
+    split b a (λ h. let e : a ≡ b = omega arith in rw (free-none c a b h, e) (z e))
+    (λ h. let e : a + (b - a) ≡ b = omega arith in rw (free-cons c a b h) (step {es = es} (y h) (rw e (r h))))
+
+pub chain-le : {P E : ℕ} {s : Status} {a : ℕ} {es : List Piece} → ChainFrom P E s a es → a ≤ E
+chain-le (stop q b) = omega arith
+chain-le (step e r) = omega (arith, chain-le r)
+
+pub chain-border-end : {P E : ℕ} {s : Status} {a : ℕ} {es : List Piece} → ChainFrom P E s a es → Border P E
+chain-border-end (stop q b) = rw q at b
+chain-border-end (step e r) = chain-border-end r
+
+pub lives-free : (c : Class) (a b : ℕ) (es : List Piece) → lives (free c a b ++ es) ≡ lives es
+unfolding lives
+lives-free c a b es = split b a (λ h. rw (free-none c a b h)) (λ h. rw (free-cons c a b h))
