@@ -120,8 +120,8 @@ impl Space {
             };
         };
         match self.settle_without(table, i) {
-            Settling::Done(space) => Released {
-                space,
+            Settling::Done(left) => Released {
+                space: left,
                 answer: ReleaseAnswer::Done,
             },
             Settling::TableFull => Released {

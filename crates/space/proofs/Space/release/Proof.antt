@@ -36,8 +36,8 @@ returns-2 c = sym (released-missing _ _ _ _ (passes (c .before .before .before .
 settle-without-requires : tie.Need-settle-without-requires
 settle-without-requires c κs = found-sound (c .before .before .before .before .before .before .before .before .before .before .args .self) _ (c .before .before .before .before .before .before .before .before .before .before .args .address) (c .before .before .before .before .before .before .before .before .before .before .args .size) (passes (c .before .before .before .before .before .before .before .is-sound .ensures) (c .before .before .before .before .before .before .if1 .left)) _ _ (sym (c .before .before .i .given .1) ∙ c .before .before .before .before .find .ensures)
 
-enum-known-space : tie.Need-enum-known-space
-enum-known-space c = search needs
+enum-known-left : tie.Need-enum-known-left
+enum-known-left c = search needs
 
 enum-told-2 : tie.Need-enum-told-2
 enum-told-2 c = search needs
@@ -46,7 +46,7 @@ same-length-3 : tie.Need-same-length-3
 same-length-3 c = search needs
 
 returns-3 : tie.Need-returns-3
-returns-3 c = said-done _ _ _ _ (c .before .space .given .1) ∙ (c .before .before .before .before .before .settle-without .ensures ∙ sym (released-found _ _ _ _ (passes (c .before .before .before .before .before .before .before .before .before .before .before .before .before .is-sound .ensures) (c .before .before .before .before .before .before .before .before .before .before .before .before .if1 .left)) _ _ (sym (c .before .before .before .before .before .before .before .before .i .given .1) ∙ c .before .before .before .before .before .before .before .before .before .before .find .ensures)))
+returns-3 c = said-done _ _ _ _ (c .before .left .given .1) ∙ (c .before .before .before .before .before .settle-without .ensures ∙ sym (released-found _ _ _ _ (passes (c .before .before .before .before .before .before .before .before .before .before .before .before .before .is-sound .ensures) (c .before .before .before .before .before .before .before .before .before .before .before .before .if1 .left)) _ _ (sym (c .before .before .before .before .before .before .before .before .i .given .1) ∙ c .before .before .before .before .before .before .before .before .before .before .find .ensures)))
 
 same-length-4 : tie.Need-same-length-4
 same-length-4 c = search needs
@@ -67,7 +67,7 @@ release-spec =
     same-length-2
     returns-2
     settle-without-requires
-    enum-known-space
+    enum-known-left
     enum-told-2
     same-length-3
     returns-3
