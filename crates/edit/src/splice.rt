@@ -34,7 +34,7 @@ fn move_up(table: &mut [u64], to: usize, from: usize, len: usize)
 }
 
 // len words from `from` on become 0.
-fn clear(table: &mut [u64], from: usize, len: usize)
+pub fn clear(table: &mut [u64], from: usize, len: usize)
     requires { ⌜ from + len ≤ length (now table) ⌝ }
     ensures { λ _. ⌜ now (table .exit) ≡ paste (now (table .entry)) from (replicate len 0) len ⌝ }
 {

@@ -1,22 +1,20 @@
 -- Laws of an opening.
 --
---   cleared w i     the words w, the first i of them 0
---
--- In this order: the ranges, up to the first that fails (opening); one word more that is 0 (cleared); the whole call, refused and done (opened);
+-- In this order: the ranges, up to the first that fails (opening); words cleared from the first to the last
+-- (cleared-all); the whole call, refused and done (opened);
 -- the state that it leaves is sound (opened-sound), or refused by every call (nowhere-unsound).
 --
--- Not here: words cleared from any place on (clear-next of edit's MoveLaws). Assumes nothing.
+-- Assumes nothing.
 use Prim.Native.Nat.{ℕ, _+_, _*_, _≤_, _<_}
 use mathlib.Core.Bool.{true, false}
 use mathlib.Core.List.{List, [], append-nil}
-use mathlib.Core.Path.{_≡_, refl, sym, ap, _∙_}
-use native.Mathlib.Nat.{zero-add, le-refl}
+use mathlib.Core.Path.{_≡_, refl}
+use native.Mathlib.Nat.{le-refl}
 use native.Mathlib.Omega.{arith}
 use lib.Dec.{leb}
-use lib.ListN.{length, replicate, drop, set, length-replicate, getD-replicate, drop-of-length-le}
-use lib.Seq.{paste, paste-zero, take-all}
+use lib.ListN.{length, replicate, drop, length-replicate, getD-replicate, drop-of-length-le}
+use lib.Seq.{paste, take-all}
 use borrow.Author.Tests.{le-leb, lt-leb}
-use Rattle.edit.proofs.MoveLaws.{clear-next}
 use Rattle.pages.proofs.Numbers.{and-left, and-right}
 use Rattle.pages.proofs.PageLaws.{true-border, border-zero}
 use Rattle.pages.specs.Pages.{pageSizeb}
@@ -49,16 +47,7 @@ module _ (P M len : ℕ) where
 
 -- ---- the words
 
-abbrev pub cleared : List ℕ → ℕ → List ℕ
-cleared w i = paste w 0 (replicate (length w) 0) i
-
-pub cleared-none : (w : List ℕ) → w ≡ cleared w 0
-cleared-none w = paste-zero w 0 (replicate (length w) 0)
-
-pub cleared-next : (w t : List ℕ) (i : ℕ) → i < length w → t ≡ cleared w i → set t i 0 ≡ cleared w (i + 1)
-cleared-next w t i lt is = ap (λ (k : ℕ). set t k 0) (sym (zero-add i)) ∙ clear-next w 0 (length w) i t (omega arith) lt is
-
-pub cleared-all : (w : List ℕ) → cleared w (length w) ≡ replicate (length w) 0
+pub cleared-all : (w : List ℕ) → paste w 0 (replicate (length w) 0) (length w) ≡ replicate (length w) 0
 cleared-all w =
     let z : List ℕ = replicate (length w) 0 in
     let all = take-all (length w) z (rw length-replicate (le-refl (length w))) in

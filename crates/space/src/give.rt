@@ -132,7 +132,7 @@ impl Space {
     }
 
     // Whether a file would pass its limit if a piece that ends at e grew by m.
-    pub fn passes_limit(self, e: u64, m: u64) -> bool
+    pub(crate) fn passes_limit(self, e: u64, m: u64) -> bool
         requires { ⌜ LimitFits self × (e ≤ self .limit) ⌝ }
         ensures { λ r. ⌜ r ≡ ltb (self .limit) (up (self .page) (e + m)) ⌝ }
     {

@@ -5,7 +5,7 @@ pub mod give;
 pub mod list;
 pub mod open;
 pub mod place;
-pub mod settle;
+mod settle;
 
 // The state: page size, address limit, end of the allocated file, count of entries.
 pub struct Space {

@@ -31,12 +31,8 @@ fn may_open(page: u64, limit: u64, len: usize) -> bool
 fn clear(table: &mut [u64])
     ensures { λ _. ⌜ now (table .exit) ≡ replicate (length (now (table .entry))) 0 ⌝ }
 {
-    let mut i: usize = 0;
-    // The first i words are 0.
-    while i < table.len() {
-        table[i] = 0;
-        i = i + 1;
-    }
+    let len = table.len();
+    edit::splice::clear(table, 0, len);
 }
 
 impl Space {

@@ -39,7 +39,7 @@ impl Space {
     }
 
     // Without the live piece of entry i.
-    pub fn settle_without(self, table: &mut [u64], i: usize) -> Settling
+    pub(crate) fn settle_without(self, table: &mut [u64], i: usize) -> Settling
         requires { ⌜ SoundAt self (now table) (i + 1) ⌝ }
         ensures { λ r. ⌜ settleSaid self r (now (table .exit)) ≡ settled self (now (table .entry)) (livesAround self (now (table .entry)) i (i + 1) []) ⌝ }
     {
@@ -49,7 +49,7 @@ impl Space {
     }
 
     // With this live piece in place of those among the entries from i up to j.
-    pub fn settle_with(self, table: &mut [u64], i: usize, j: usize, piece: Piece) -> Settling
+    pub(crate) fn settle_with(self, table: &mut [u64], i: usize, j: usize, piece: Piece) -> Settling
         requires { ⌜ (SoundAt self (now table) j × (i ≤ j)) × (behind piece ≤ self .limit) ⌝ }
         ensures { λ r. ⌜ settleSaid self r (now (table .exit)) ≡ settled self (now (table .entry)) (livesAround self (now (table .entry)) i j (piece ∷ [])) ⌝ }
     {

@@ -1,0 +1,118 @@
+-- What document 01 says of read, rest and write, row by row and by its numbers, and not by how it is computed; and the theorems that hold of the
+-- definitions in specs/Message.antt. The proofs are in proofs/Promised.antt.
+--
+--   Undefined vs          the addresses vs are all undefined
+--   Legal f               the fields f keep the rules
+--   Addresses at vs b     the bytes b have the addresses vs, one for each type, from the place `at` on
+--   Says f b              the bytes b start with a message of the fields f
+--   NoMessage b           they start with no message: no legal fields are said
+--
+--   ReadRow b n g         read answers the number n and hands back the fields g
+--   RestRow b c           rest hands back c
+--   WriteRow f b n c      write answers n and makes c of the lent bytes b
+--
+--   ReadExact .. WriteExact   the definitions meet the rows, and nothing else does
+--   Message b, Accepted   b starts with a message: it says legal fields; exactly such bytes are accepted
+--   RoundTrip             what is written reads back to equal fields, and what is read writes back to equal bytes
+--   Unique                any two results that the rows allow are equal; bytes say one thing, and fields are said in one way
+--
+-- Assumes nothing.
+use mathlib.Core.Path.{_≡_}
+use mathlib.Core.Logic.{_↔_}
+use mathlib.Core.List.{List, _++_}
+use Prim.Native.Nat.{ℕ, _+_, _*_, _≤_, _<_}
+use lib.ListN.{length, take, drop, getD}
+use Rattle.pages.specs.Pages.{PageSize}
+use Rattle.little.specs.Little.{valueAt, Bytes}
+use Rattle.message.specs.declared.fields.Fields.{Fields}
+use Rattle.message.specs.declared.fields.Read.{Read}
+use Rattle.message.specs.declared.fields.Answer.{Answer}
+use Rattle.message.specs.declared.fields.Answer.the-variants.{Done}
+use Rattle.message.specs.Layout.{versionAt, strategyAt, persistAt, thresholdAt, pageAt, pageEndAt, eoaAt, smallAt, largeAt, messageLength, types, addressWidth}
+use Rattle.message.specs.Message.{numberOf, version, lastStrategy, lastPersist, undefined, lengthOf, Held, noFields, readAnswer, reading, following, written, Wrote}
+
+-- ---- the fields
+
+abbrev pub Undefined : List ℕ → Type 0
+Undefined vs = (i : ℕ) → i < length vs → getD vs i 0 ≡ undefined
+
+pub record Legal (f : Fields) : Type 0 where
+  pub strategy : f .strategy ≤ lastStrategy
+  pub persist : f .persist ≤ lastPersist
+  pub page : PageSize (f .page)
+  pub addresses : f .persist ≡ 0 → Undefined (f .small) × Undefined (f .large)
+
+-- ---- the message
+
+pub record Addresses (at : ℕ) (vs b : List ℕ) : Type 0 where
+  pub six : length vs ≡ types
+  pub each : (i : ℕ) → i < types → getD vs i 0 ≡ valueAt (at + i * addressWidth) (at + (i * addressWidth + addressWidth)) b
+
+pub record Says (f : Fields) (b : List ℕ) : Type 0 where
+  pub room : lengthOf f ≤ length b
+  pub edition : valueAt versionAt strategyAt b ≡ version
+  pub strategy : f .strategy ≡ valueAt strategyAt persistAt b
+  pub persist : f .persist ≡ valueAt persistAt thresholdAt b
+  pub threshold : f .threshold ≡ valueAt thresholdAt pageAt b
+  pub page : f .page ≡ valueAt pageAt pageEndAt b
+  pub page-end : f .«page_end» ≡ valueAt pageEndAt eoaAt b
+  pub eoa : f .eoa ≡ valueAt eoaAt smallAt b
+  pub small : Addresses smallAt (f .small) b
+  pub large : Addresses largeAt (f .large) b
+
+abbrev pub NoMessage : List ℕ → Type 0
+NoMessage b = (f : Fields) → Says f b → Legal f → ⊥
+
+-- ---- the rows
+
+pub data ReadRow (b : List ℕ) (n : ℕ) (g : Fields) : Type 0 where
+  ten : n ≡ 10 → g ≡ noFields → length b < messageLength → ReadRow b n g
+  eleven : n ≡ 11 → g ≡ noFields → messageLength ≤ length b → (valueAt versionAt strategyAt b ≡ version → ⊥) → ReadRow b n g
+  twelve : n ≡ 12 → g ≡ noFields → messageLength ≤ length b → valueAt versionAt strategyAt b ≡ version → NoMessage b → ReadRow b n g
+  done : n ≡ 0 → Says g b → Legal g → ReadRow b n g
+
+pub data RestRow (b c : List ℕ) : Type 0 where
+  whole : c ≡ b → NoMessage b → RestRow b c
+  behind : (f : Fields) → Says f b → Legal f → c ≡ drop (lengthOf f) b → RestRow b c
+
+pub data WriteRow (f : Fields) (b : List ℕ) (n : ℕ) (c : List ℕ) : Type 0 where
+  twelve : n ≡ 12 → c ≡ b → (Legal f → ⊥) → WriteRow f b n c
+  ten : n ≡ 10 → c ≡ b → Legal f → length b < lengthOf f → WriteRow f b n c
+  done : n ≡ 0 → Legal f → lengthOf f ≤ length b → Says f c → drop (lengthOf f) c ≡ drop (lengthOf f) b → WriteRow f b n c
+
+-- ---- the theorems
+
+abbrev pub ReadExact : Type 0
+ReadExact = (b : List ℕ) (r : Read) → (r ≡ reading b) ↔ ReadRow b (numberOf (r .answer)) (r .fields)
+
+abbrev pub RestExact : Type 0
+RestExact = (b c : List ℕ) → (c ≡ following b) ↔ RestRow b c
+
+-- the lent memory holds bytes, before and after
+abbrev pub WriteExact : Type 0
+WriteExact =
+    (f : Fields) (b : List ℕ) (a : Answer) (c : List ℕ) → Held f → Bytes b → Bytes c → Wrote f b a c ↔ WriteRow f b (numberOf a) c
+
+pub record Message (b : List ℕ) : Type 0 where
+  pub fields : Fields
+  pub says : Says fields b
+  pub legal : Legal fields
+
+abbrev pub Accepted : Type 0
+Accepted = (b : List ℕ) → (readAnswer b ≡ Done) ↔ Message b
+
+pub record RoundTrip : Type 0 where
+  pub write-read : (f : Fields) (b : List ℕ) → Held f → Legal f → lengthOf f ≤ length b
+      → reading (written f b) ≡ record { answer = Done; fields = f }
+  pub write-rest : (f : Fields) (b : List ℕ) → Held f → Legal f → lengthOf f ≤ length b → following (written f b) ≡ drop (lengthOf f) b
+  pub read-write : (b c : List ℕ) → Bytes b → readAnswer b ≡ Done → lengthOf (reading b .fields) ≤ length c
+      → written (reading b .fields) c ≡ take (lengthOf (reading b .fields)) b ++ drop (lengthOf (reading b .fields)) c
+  pub read-held : (b : List ℕ) → Bytes b → Held (reading b .fields)
+
+pub record Unique : Type 0 where
+  pub read : (b : List ℕ) (r s : Read) → ReadRow b (numberOf (r .answer)) (r .fields) → ReadRow b (numberOf (s .answer)) (s .fields) → r ≡ s
+  pub rest : (b c d : List ℕ) → RestRow b c → RestRow b d → c ≡ d
+  pub write : (f : Fields) (b : List ℕ) (a z : Answer) (c d : List ℕ) → Held f → Bytes b → Bytes c → Bytes d
+      → WriteRow f b (numberOf a) c → WriteRow f b (numberOf z) d → (a ≡ z) × (c ≡ d)
+  pub fields : (f g : Fields) (b : List ℕ) → Says f b → Says g b → f ≡ g
+  pub bytes : (f : Fields) (b c : List ℕ) → Bytes b → Bytes c → Says f b → Says f c → take (lengthOf f) b ≡ take (lengthOf f) c

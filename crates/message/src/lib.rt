@@ -1,0 +1,66 @@
+// The File Space Info message, version 1: read out of the part of a header block that starts at the message, written into one, and the part
+// of the block that follows it. No public call has a `requires`: what breaks a rule is refused.
+pub mod fields;
+mod parts;
+mod rules;
+
+pub use fields::Answer;
+pub use fields::Fields;
+pub use fields::Read;
+pub use fields::Refusal;
+pub use fields::number_of;
+ghost use mathlib.Core.Path.{_≡_};
+ghost use Rattle.message.specs.Message.{reading, following, Wrote};
+use fields::LEAST_LENGTH;
+use fields::VERSION;
+use fields::VERSION_AT;
+use fields::follows_at;
+use fields::length_of;
+use fields::refused;
+use parts::fields_of;
+use parts::put_fields;
+use rules::is_legal;
+
+// The fields of the message that the bytes start with, or why there is none.
+pub fn read(bytes: &[u8]) -> Read
+    ensures { λ r. ⌜ r ≡ reading (now (bytes .entry)) ⌝ }
+{
+    if bytes.len() < LEAST_LENGTH {
+        return refused(Refusal::Short);
+    }
+    if bytes[VERSION_AT] != VERSION {
+        return refused(Refusal::Version);
+    }
+    let fields = fields_of(bytes);
+    if is_legal(fields) {
+        return Read {
+            answer: Answer::Done,
+            fields: fields,
+        };
+    }
+    refused(Refusal::Field)
+}
+
+// The caller's own slice from behind the message on, or all of it where there is no message.
+pub fn rest(bytes: &[u8]) -> &[u8]
+    ensures { λ r. ⌜ now r ≡ following (now (bytes .entry)) ⌝ }
+{
+    let message = read(bytes);
+    let start = follows_at(message);
+    &bytes[start..]
+}
+
+// Writes the message of the fields to the front of `out`.
+pub fn write(fields: Fields, out: &mut [u8]) -> Answer
+    ensures { λ r. ⌜ Wrote fields (now (out .entry)) r (now (out .exit)) ⌝ }
+{
+    if is_legal(fields) {
+        let needed = length_of(fields);
+        if out.len() < needed {
+            return Answer::Refused(Refusal::Short);
+        }
+        put_fields(fields, out);
+        return Answer::Done;
+    }
+    Answer::Refused(Refusal::Field)
+}

@@ -1,0 +1,55 @@
+-- `message_vectors::edges::edges` is safe and ends: the number of the case goes up to that of the last.
+-- Assumes nothing.
+use Prim.Native.Nat.{_≤_, _-_}
+use borrow.Author.Needs.{needs}
+use Rattle.message_vectors.proofs.edges.edges.Statement.{statement}
+use Rattle.message_vectors.proofs.edges.edges.Tie as tie
+
+abbrev Inv-loop : tie.InvT-loop
+Inv-loop good fields counted₀ i₀ counted i = i ≤ 10
+
+abbrev μ-loop : tie.MeasureT-loop
+μ-loop good fields counted₀ i₀ counted i = 10 - i
+
+read-requires : tie.Need-read-requires Inv-loop μ-loop
+read-requires c κs = search needs
+
+loop-holds : tie.Need-loop-holds Inv-loop μ-loop
+loop-holds c = search needs
+
+with-requires : tie.Need-with-requires Inv-loop μ-loop
+with-requires c κs = search needs
+
+keeps-requires : tie.Need-keeps-requires Inv-loop μ-loop
+keeps-requires c κs = search needs
+
+edge-requires : tie.Need-edge-requires Inv-loop μ-loop
+edge-requires c κs = search needs
+
+add-i : tie.Need-add-i Inv-loop μ-loop
+add-i c = search needs
+
+loop-less : tie.Need-loop-less Inv-loop μ-loop
+loop-less c = search needs
+
+loop-again : tie.Need-loop-again Inv-loop μ-loop
+loop-again c = search needs
+
+returns : tie.Need-returns Inv-loop μ-loop
+returns c = search needs
+
+pub edges-spec : {M : Type 1} → statement M
+edges-spec =
+    tie.close
+    (tie.spec
+    Inv-loop
+    μ-loop
+    read-requires
+    loop-holds
+    with-requires
+    keeps-requires
+    edge-requires
+    add-i
+    loop-less
+    loop-again
+    returns)
