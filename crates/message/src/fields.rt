@@ -77,14 +77,14 @@ pub fn number_of(answer: Answer) -> u64
 }
 
 // How long the message of the fields is.
-pub fn length_of(_fields: Fields) -> usize
+pub(crate) fn length_of(_fields: Fields) -> usize
     ensures { λ r. ⌜ r ≡ lengthOf «_fields» ⌝ }
 {
     MESSAGE_LENGTH
 }
 
 // Where the part behind the message starts: at the front where the message is refused.
-pub fn follows_at(message: Read) -> usize
+pub(crate) fn follows_at(message: Read) -> usize
     ensures { λ r. ⌜ r ≡ followsAt message ⌝ }
 {
     let answer = message.answer;
@@ -98,7 +98,7 @@ pub fn follows_at(message: Read) -> usize
 }
 
 // The fields of a refused message: all 0.
-pub fn no_fields() -> Fields
+pub(crate) fn no_fields() -> Fields
     ensures { λ r. ⌜ r ≡ noFields ⌝ }
 {
     Fields {
@@ -114,7 +114,7 @@ pub fn no_fields() -> Fields
 }
 
 // A refused message.
-pub fn refused(why: Refusal) -> Read
+pub(crate) fn refused(why: Refusal) -> Read
     ensures { λ r. ⌜ r ≡ refusedRead why ⌝ }
 {
     Read {

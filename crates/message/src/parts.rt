@@ -22,7 +22,7 @@ use crate::fields::VERSION;
 use crate::fields::VERSION_AT;
 
 // The addresses of one part, one for each type.
-pub fn addresses(part: &[u8]) -> [u64; TYPES]
+pub(crate) fn addresses(part: &[u8]) -> [u64; TYPES]
     requires { ⌜ length (now part) ≡ addressesLength ⌝ }
     ensures { λ r. ⌜ r ≡ addressesOf (now (part .entry)) ⌝ }
 {
@@ -37,7 +37,7 @@ pub fn addresses(part: &[u8]) -> [u64; TYPES]
 }
 
 // The fields of a message that is there in full.
-pub fn fields_of(bytes: &[u8]) -> Fields
+pub(crate) fn fields_of(bytes: &[u8]) -> Fields
     requires { ⌜ messageLength ≤ length (now bytes) ⌝ }
     ensures { λ r. ⌜ r ≡ fieldsOf (now (bytes .entry)) ⌝ }
 {
@@ -56,7 +56,7 @@ pub fn fields_of(bytes: &[u8]) -> Fields
 }
 
 // Writes the addresses of one part.
-pub fn put_addresses(addresses: [u64; TYPES], part: &mut [u8])
+pub(crate) fn put_addresses(addresses: [u64; TYPES], part: &mut [u8])
     requires { ⌜ length (now part) ≡ addressesLength ⌝ }
     ensures { λ _. ⌜ now (part .exit) ≡ bytesOfAll addressWidth addresses ⌝ }
 {
@@ -69,7 +69,7 @@ pub fn put_addresses(addresses: [u64; TYPES], part: &mut [u8])
 }
 
 // Writes the fields that stand before the addresses.
-pub fn put_head(fields: Fields, head: &mut [u8])
+pub(crate) fn put_head(fields: Fields, head: &mut [u8])
     requires { ⌜ length (now head) ≡ smallAt ⌝ }
     ensures { λ _. ⌜ now (head .exit) ≡ headOf fields ⌝ }
 {
@@ -83,7 +83,7 @@ pub fn put_head(fields: Fields, head: &mut [u8])
 }
 
 // Writes the message of the fields to the front of `out`.
-pub fn put_fields(fields: Fields, out: &mut [u8])
+pub(crate) fn put_fields(fields: Fields, out: &mut [u8])
     requires { ⌜ messageLength ≤ length (now out) ⌝ }
     ensures { λ _. ⌜ now (out .exit) ≡ messageOf fields ++ drop messageLength (now (out .entry)) ⌝ }
 {

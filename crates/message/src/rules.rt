@@ -12,7 +12,7 @@ const LAST_PERSIST: u8 = 1;
 const UNDEFINED: u64 = 18446744073709551615;
 
 // Whether the addresses are all undefined.
-pub fn are_undefined(addresses: [u64; TYPES]) -> bool
+pub(crate) fn are_undefined(addresses: [u64; TYPES]) -> bool
     ensures { λ r. ⌜ r ≡ undefinedb addresses ⌝ }
 {
     let mut i = 0;
@@ -26,7 +26,7 @@ pub fn are_undefined(addresses: [u64; TYPES]) -> bool
 }
 
 // Whether the addresses are such as the persist byte allows.
-pub fn addresses_keep(persist: u8, small: [u64; TYPES], large: [u64; TYPES]) -> bool
+pub(crate) fn addresses_keep(persist: u8, small: [u64; TYPES], large: [u64; TYPES]) -> bool
     ensures { λ r. ⌜ r ≡ addressesb persist small large ⌝ }
 {
     if persist != 0 {
@@ -39,7 +39,7 @@ pub fn addresses_keep(persist: u8, small: [u64; TYPES], large: [u64; TYPES]) -> 
 }
 
 // Whether the fields keep every rule.
-pub fn is_legal(fields: Fields) -> bool
+pub(crate) fn is_legal(fields: Fields) -> bool
     ensures { λ r. ⌜ r ≡ legalb fields ⌝ }
 {
     if LAST_STRATEGY < fields.strategy {
