@@ -1,0 +1,21 @@
+-- The last test and those before it are the four equations of the two states.
+-- Assumes nothing.
+use mathlib.Core.Bool.{false≢true}
+use borrow.Author.Tests.{eqb-true}
+use Rattle.show.proofs.scene.same_state.Statement.{statement}
+use Rattle.show.proofs.scene.same_state.Tie as tie
+
+returns : tie.Need-returns
+returns c = λ h. absurd (false≢true h)
+
+returns-2 : tie.Need-returns-2
+returns-2 c = λ h. absurd (false≢true h)
+
+returns-3 : tie.Need-returns-3
+returns-3 c = λ h. absurd (false≢true h)
+
+returns-4 : tie.Need-returns-4
+returns-4 c = λ h. λ i. record { page = c .before .before .before .before .before .before .before .before .if1 .left i; limit = c .before .before .before .before .before .if2 .left i; end = c .before .before .if3 .left i; count = eqb-true (c .before .before .before .before .before .before .before .before .before .before .before .args .a .count) (c .before .before .before .before .before .before .before .before .before .before .before .args .other .count) h i }
+
+pub same-state-spec : {M : Type 1} → statement M
+same-state-spec = tie.close (tie.spec returns returns-2 returns-3 returns-4)

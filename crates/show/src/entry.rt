@@ -1,0 +1,53 @@
+// A table in words, an entry to a line.
+ghost use Prim.Native.Nat.{_+_, _*_, _≤_};
+ghost use lib.ListN.{length};
+ghost use Rattle.pieces.specs.Words.{entryWords};
+use crate::text::say;
+use crate::text::say_line;
+use crate::text::say_number;
+use pieces::ENTRY_WORDS;
+
+fn say_kind(kind: u64) {
+    match kind {
+        1 => say_line(b"live small metadata"),
+        2 => say_line(b"live small raw"),
+        3 => say_line(b"live large"),
+        4 => say_line(b"free small metadata"),
+        5 => say_line(b"free small raw"),
+        6 => say_line(b"free large"),
+        _ => say_line(b"no kind"),
+    }
+}
+
+fn say_entry(table: &[u64], i: usize)
+    requires { ⌜ (i + 1) * entryWords ≤ length (now table) ⌝ }
+{
+    let piece = pieces::piece_at(table, i);
+    say(b"    at ");
+    say_number(piece.address);
+    say(b" size ");
+    say_number(piece.size);
+    say(b" ");
+    say_kind(pieces::kind_at(table, i));
+}
+
+// How many of n entries a slice of words has.
+fn entries_in(n: u64, words: usize) -> usize
+    ensures { λ r. ⌜ r * entryWords ≤ words ⌝ }
+{
+    let most = words / ENTRY_WORDS;
+    if (most as u64) < n {
+        return most;
+    }
+    n as usize
+}
+
+// The first n entries, or as many as there are.
+pub fn say_table(table: &[u64], n: u64) {
+    let count = entries_in(n, table.len());
+    let mut i: usize = 0;
+    while i < count {
+        say_entry(table, i);
+        i = i + 1;
+    }
+}

@@ -1,0 +1,227 @@
+// A space as one value: the state, and the words of which the first `len` are the lent table. So a caller keeps what stood before a call, and
+// compares every word after it, those behind the table too.
+ghost use Prim.Native.Nat.{_≤_};
+ghost use mathlib.Core.Path.{_≡_};
+ghost use mathlib.Core.Bool.{true};
+ghost use lib.ListN.{length};
+use crate::answer;
+use crate::answer::Answer;
+use crate::entry;
+use crate::text::say;
+use crate::text::say_number;
+use pieces::ENTRY_WORDS;
+use space::Space;
+
+pub const WORDS: usize = 96;
+
+pub struct Scene {
+    pub space: Space,
+    pub words: [u64; 96],
+    pub len: usize,
+}
+
+// What a caller can ask of a space. A piece is named by address and size; what it is to gain or to lose comes last.
+pub enum Call {
+    Allocate(u64, u64),
+    Release(u64, u64),
+    Extend(u64, u64, u64),
+    Shorten(u64, u64, u64),
+}
+
+pub struct Told {
+    pub space: Space,
+    pub answer: Answer,
+}
+
+pub struct Asked {
+    pub scene: Scene,
+    pub answer: Answer,
+}
+
+pub fn blank() -> [u64; 96]
+    ensures { λ r. ⌜ 96 ≡ length r ⌝ }
+{
+    [0u64; 96]
+}
+
+// The words with entry i in them; as they are, if there is no entry i.
+pub fn with_entry(words: [u64; 96], i: usize, address: u64, size: u64, kind: u64) -> [u64; 96] {
+    let mut new = words;
+    if i < WORDS / ENTRY_WORDS {
+        let at = i * ENTRY_WORDS;
+        new[at] = address;
+        new[at + 1] = size;
+        new[at + 2] = kind;
+    }
+    new
+}
+
+// An opened space whose table is the first `len` words.
+pub fn open(page: u64, limit: u64, len: usize) -> Asked {
+    let mut words = blank();
+    let lent = part(len);
+    let done = Space::open(page, limit, &mut words[..lent]);
+    let now = done.space;
+    let said = done.answer;
+    Asked {
+        scene: Scene {
+            space: now,
+            words,
+            len,
+        },
+        answer: answer::of_open(said),
+    }
+}
+
+// The default opening over all 96 words.
+pub fn open_default() -> Asked {
+    let mut words = blank();
+    let done = Space::open_default(&mut words);
+    let now = done.space;
+    let said = done.answer;
+    Asked {
+        scene: Scene {
+            space: now,
+            words,
+            len: WORDS,
+        },
+        answer: answer::of_open(said),
+    }
+}
+
+fn allocate(space: Space, table: &mut [u64], code: u64, size: u64) -> Told {
+    let done = space.allocate(table, code, size);
+    let now = done.space;
+    let said = done.answer;
+    Told {
+        space: now,
+        answer: answer::of_allocate(said),
+    }
+}
+
+fn release(space: Space, table: &mut [u64], address: u64, size: u64) -> Told {
+    let done = space.release(table, address, size);
+    let now = done.space;
+    let said = done.answer;
+    Told {
+        space: now,
+        answer: answer::of_release(said),
+    }
+}
+
+fn extend(space: Space, table: &mut [u64], address: u64, size: u64, by: u64) -> Told {
+    let done = space.extend(table, address, size, by);
+    let now = done.space;
+    let said = done.answer;
+    Told {
+        space: now,
+        answer: answer::of_extend(said),
+    }
+}
+
+fn shorten(space: Space, table: &mut [u64], address: u64, size: u64, by: u64) -> Told {
+    let done = space.shorten(table, address, size, by);
+    let now = done.space;
+    let said = done.answer;
+    Told {
+        space: now,
+        answer: answer::of_shorten(said),
+    }
+}
+
+fn tell(space: Space, table: &mut [u64], call: Call) -> Told {
+    match call {
+        Call::Allocate(code, size) => allocate(space, table, code, size),
+        Call::Release(address, size) => release(space, table, address, size),
+        Call::Extend(address, size, by) => extend(space, table, address, size, by),
+        Call::Shorten(address, size, by) => shorten(space, table, address, size, by),
+    }
+}
+
+// So many words, or all there are.
+fn part(len: usize) -> usize
+    ensures { λ r. ⌜ r ≤ 96 ⌝ }
+{
+    if WORDS < len {
+        return WORDS;
+    }
+    len
+}
+
+// The call, on the lent table.
+pub fn ask(scene: Scene, call: Call) -> Asked {
+    let mut words = scene.words;
+    let len = part(scene.len);
+    let state = scene.space;
+    let told = tell(state, &mut words[..len], call);
+    let now = told.space;
+    let said = told.answer;
+    Asked {
+        scene: Scene {
+            space: now,
+            words,
+            len: scene.len,
+        },
+        answer: said,
+    }
+}
+
+// What the call leaves.
+pub fn after(scene: Scene, call: Call) -> Scene {
+    let asked = ask(scene, call);
+    let left = asked.scene;
+    left
+}
+
+pub fn same_state(a: Space, other: Space) -> bool
+    ensures { λ r. ⌜ (r ≡ true → a ≡ other) ⌝ }
+{
+    if a.page != other.page {
+        return false;
+    }
+    if a.limit != other.limit {
+        return false;
+    }
+    if a.end != other.end {
+        return false;
+    }
+    a.count == other.count
+}
+
+// The table, an entry to a line.
+pub fn say_entries(scene: Scene) {
+    let words = scene.words;
+    let state = scene.space;
+    entry::say_table(&words, state.count);
+}
+
+fn say_pair(verb: &[u8], address: u64, size: u64) {
+    say(verb);
+    say_number(address);
+    say(b" size ");
+    say_number(size);
+}
+
+fn say_change(verb: &[u8], address: u64, size: u64, by: u64) {
+    say_pair(verb, address, size);
+    say(b" by ");
+    say_number(by);
+}
+
+fn say_request(code: u64, size: u64) {
+    match code {
+        1 => say(b"metadata "),
+        2 => say(b"raw "),
+        _ => say(b"unknown type "),
+    }
+    say_number(size);
+}
+
+pub fn say_call(call: Call) {
+    match call {
+        Call::Allocate(code, size) => say_request(code, size),
+        Call::Release(address, size) => say_pair(b"release ", address, size),
+        Call::Extend(address, size, by) => say_change(b"extend ", address, size, by),
+        Call::Shorten(address, size, by) => say_change(b"shorten ", address, size, by),
+    }
+}

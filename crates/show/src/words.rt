@@ -1,0 +1,51 @@
+// Two slices of words, compared word by word.
+ghost use mathlib.Core.Path.{_≡_};
+ghost use mathlib.Core.Bool.{true};
+ghost use lib.ListN.{length, getD};
+ghost use Prim.Native.Nat.{ℕ, _≤_, _<_};
+use crate::text::say;
+use crate::text::say_line;
+use crate::text::say_number;
+
+// The index of the first word that differs; the length of the shorter one, where there is none.
+pub fn agreeing(a: &[u64], b: &[u64]) -> usize
+    ensures within { λ r. ⌜ (r ≤ length (now (a .entry))) × (r ≤ length (now (b .entry))) ⌝ }
+    ensures agree { λ r. ⌜ ((k : ℕ) → k < r → getD (now (a .entry)) k 0 ≡ getD (now (b .entry)) k 0) ⌝ }
+{
+    let mut i: usize = 0;
+    // The first i words agree.
+    while i < a.len() {
+        if b.len() <= i {
+            return i;
+        }
+        if a[i] != b[i] {
+            return i;
+        }
+        i = i + 1;
+    }
+    i
+}
+
+// Whether they have the same words.
+pub fn same_words(a: &[u64], b: &[u64]) -> bool
+    ensures { λ r. ⌜ (r ≡ true → now (a .entry) ≡ now (b .entry)) ⌝ }
+{
+    if a.len() != b.len() {
+        return false;
+    }
+    if agreeing(a, b) < a.len() {
+        return false;
+    }
+    true
+}
+
+// That every word agrees, or the first one that differs.
+pub fn say_agreement(a: &[u64], b: &[u64]) {
+    if same_words(a, b) {
+        say_line(b"every word agrees");
+        return;
+    }
+    say(b"the first word that differs is word ");
+    say_number(agreeing(a, b) as u64);
+    say(b"\n");
+}
