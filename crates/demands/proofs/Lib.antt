@@ -1,0 +1,14 @@
+-- The proofs of the statements in specs/, and the laws that they share.
+pub mod Lists
+pub mod KeepLaws
+pub mod ReleaseLaws
+pub mod AnyOrder
+pub mod Run
+pub mod OneResult
+pub mod Refusals
+pub mod EditLaws
+pub mod PlaceRule
+pub mod LongerLaws
+pub mod AcceptedLaws
+pub mod Keeps
+pub mod Edits

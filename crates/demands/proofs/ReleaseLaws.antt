@@ -1,0 +1,187 @@
+-- A release of a live piece of a sound table is accepted, and what is left of it.
+--
+--   Among n ps          one of the pieces ps has this name
+--   live-among, among-live    a live entry's name is one of the live pieces'
+--   among-remove        another piece's removal leaves it
+--   end-remove          the file does not grow
+--   released-done       the release is accepted: the table and the state of the live pieces without it
+--
+-- Assumes nothing.
+use Prim.Native.Nat.{ℕ, suc, _+_, _≤_, _<_}
+use mathlib.Core.Bool.{Bool, true, false, cond, not}
+use mathlib.Core.List.{List, [], _∷_, List·Memᴰ, List·Memᴰ·head, List·Memᴰ·tail}
+use mathlib.Core.Path.{_≡_, refl, sym, ap, _∙_}
+use native.Mathlib.Omega.{arith}
+use lib.ListN.{length}
+use borrow.Author.Tests.{eq-eqb}
+use Rattle.change.proofs.AroundLaws.{lives-live, lives-free}
+use Rattle.demands.proofs.KeepLaws.{tabled, sound-true, sound-ends, sound-count}
+use Rattle.demands.specs.Calls.{SoundSpace, IsLive}
+use Rattle.find.proofs.FindLaws.{found-missing}
+use Rattle.find.specs.Find.{findLive}
+use Rattle.find.specs.declared.Found.the-variants.{At, Missing}
+use Rattle.find.specs.declared.Found.{Found}
+use Rattle.pages.proofs.Numbers.{both}
+use Rattle.pages.proofs.PageLaws.{page-pos, up-mono}
+use Rattle.pieces.specs.Pieces.{piece, EntryIs, entry-here, entry-later}
+use Rattle.pieces.specs.declared.Class.{Class}
+use Rattle.pieces.specs.declared.Piece.{Piece}
+use Rattle.pieces.specs.declared.Status.the-variants.{Live, Free}
+use Rattle.pieces.specs.declared.Status.{Status}
+use Rattle.rules.proofs.CountLaws.{release-count}
+use Rattle.rules.proofs.RemoveLaws.{named-address, named-size, remove-good}
+use Rattle.rules.specs.Edits.{Name, names, remove}
+use Rattle.space.proofs.SettleLaws.{refusing-no, settled-room}
+use Rattle.space.specs.Answers.{notSound, entriesOf, stateOf, settled}
+use Rattle.space.specs.Giving.{releasedAt, released}
+use Rattle.space.specs.declared.Space.{Space}
+use Rattle.table.proofs.GapLaws.{apart-le}
+use Rattle.table.proofs.Theorems.{sound-good}
+use Rattle.table.specs.Fill.{consLive, lives, lastEnd, fill, endOf, GoodFrom, none, next, Good}
+use Rattle.table.specs.Sound.{capacity}
+
+-- ---- a live piece by its name
+
+pub record Among (n : Name) (ps : List Piece) : Type 0 where
+  pub it : Piece
+  pub among : List·Memᴰ it ps
+  pub named : names n it ≡ true
+
+pub among-later : {n : Name} (x : Piece) {ps : List Piece} → Among n ps → Among n (x ∷ ps)
+among-later x h = record { it = h .it; among = List·Memᴰ·tail (h .among); named = h .named }
+
+-- a live entry is among the live pieces, and these are entries and live
+mem-lives : {es : List Piece} {x : Piece} {c : Class} → x .status ≡ Live c → List·Memᴰ x es → List·Memᴰ x (lives es)
+mem-lives {x = x} q (List·Memᴰ·head {x = y} {xs = es} e) =
+    rw (lives-live y es (sym (ap (λ (v : Piece). v .status) e) ∙ q)) (List·Memᴰ·head e)
+mem-lives {x = x} q (List·Memᴰ·tail {x = y} {xs = es} h) = go (y .status) refl (mem-lives q h)
+  where
+    go : (t : Status) → y .status ≡ t → List·Memᴰ x (lives es) → List·Memᴰ x (lives (y ∷ es))
+    go (Live k) f i = rw (lives-live y es f) (List·Memᴰ·tail i)
+    go (Free k) f i = rw (lives-free y es f) i
+
+pub record LiveEntry (x : Piece) (es : List Piece) : Type 0 where
+  pub class : Class
+  pub live : x .status ≡ Live class
+  pub among : List·Memᴰ x es
+
+live-later : {x : Piece} (y : Piece) {es : List Piece} → LiveEntry x es → LiveEntry x (y ∷ es)
+live-later y h = record { class = h .class; live = h .live; among = List·Memᴰ·tail (h .among) }
+
+pub lives-entry : (es : List Piece) (x : Piece) → List·Memᴰ x (lives es) → LiveEntry x es
+unfolding lives
+lives-entry [] x h = elim h [ ]
+lives-entry (y ∷ es) x h = go (y .status) refl h (lives-entry es x)
+  where
+    first : (k : Class) → y .status ≡ Live k → List·Memᴰ x (y ∷ lives es) → (List·Memᴰ x (lives es) → LiveEntry x es) → LiveEntry x (y ∷ es)
+    first k f (List·Memᴰ·head e) i = record { class = k; live = ap (λ (v : Piece). v .status) e ∙ f; among = List·Memᴰ·head e }
+    first k f (List·Memᴰ·tail m) i = live-later y (i m)
+
+    go : (t : Status) → y .status ≡ t → List·Memᴰ x (consLive y t (lives es)) → (List·Memᴰ x (lives es) → LiveEntry x es) → LiveEntry x (y ∷ es)
+    go (Live k) f m i = first k f m i
+    go (Free k) f m i = live-later y (i m)
+
+pub live-among : {es : List Piece} (n : Name) → IsLive es n → Among n (lives es)
+live-among n h =
+    let x = h .entry in
+    record {
+      it = x;
+      among = mem-lives (h .named .live) (h .among);
+      named = both _ _ (eq-eqb (x .address) (n .address) (h .named .address)) (eq-eqb (x .size) (n .size) (h .named .size));
+    }
+
+pub among-live : (es : List Piece) (n : Name) → Among n (lives es) → IsLive es n
+among-live es n h =
+    let l = lives-entry es (h .it) (h .among) in
+    record {
+      entry = h .it;
+      among = l .among;
+      named = record {
+        class = l .class;
+        live = l .live;
+        address = named-address n (h .it) (h .named);
+        size = named-size n (h .it) (h .named);
+      };
+    }
+
+-- ---- another piece's removal leaves a piece
+
+one-name : (n m : Name) (x : Piece) → names n x ≡ true → names m x ≡ true → n ≡ m
+one-name n m x e f =
+    let a : n .address ≡ m .address = sym (named-address n x e) ∙ named-address m x f in
+    let b : n .size ≡ m .size = sym (named-size n x e) ∙ named-size m x f in
+    λ i. record { address = a i; size = b i }
+
+pub mem-remove : (n : Name) {x : Piece} {ps : List Piece} → names n x ≡ false → List·Memᴰ x ps → List·Memᴰ x (remove n ps)
+unfolding remove
+mem-remove n {x} f (List·Memᴰ·head {x = y} e) = let g : names n y ≡ false = rw e at f in rw g (List·Memᴰ·head e)
+mem-remove n {x} f (List·Memᴰ·tail {x = y} {xs = ps} h) = go (names n y) (mem-remove n f h)
+  where
+    go : (t : Bool) → List·Memᴰ x (remove n ps) → List·Memᴰ x (cond t (remove n ps) (y ∷ remove n ps))
+    go true i = i
+    go false i = List·Memᴰ·tail i
+
+pub among-remove : (n m : Name) {ps : List Piece} → (n ≡ m → ⊥) → Among n ps → Among n (remove m ps)
+among-remove n m {ps} other h = go (names m (h .it)) refl
+  where
+    go : (t : Bool) → names m (h .it) ≡ t → Among n (remove m ps)
+    go true f = absurd (other (one-name n m (h .it) (h .named) f))
+    go false f = record { it = h .it; among = mem-remove m f (h .among); named = h .named }
+
+-- ---- the file does not grow
+
+module _ (P : ℕ) (pos : 0 < P) where
+  last-mono : {k : Class} {ps : List Piece} (a : ℕ) {e : ℕ} → GoodFrom P k e ps → a ≤ e → lastEnd a ps ≤ lastEnd e ps
+  unfolding lastEnd
+  last-mono a none l = l
+  last-mono a (next d w g) l = omega arith
+
+  last-remove : {k : Class} {a : ℕ} {ps : List Piece} (n : Name) → GoodFrom P k a ps → lastEnd a (remove n ps) ≤ lastEnd a ps
+  unfolding remove lastEnd
+  last-remove n none = omega arith
+  last-remove {a = a} n (next {m = m} {b = b} {z = z} {ps = ps} d w g) = go (names n (piece b z (Live m))) (last-remove n g)
+    where
+      go : (t : Bool) → lastEnd (b + z) (remove n ps) ≤ lastEnd (b + z) ps
+          → lastEnd a (cond t (remove n ps) (piece b z (Live m) ∷ remove n ps)) ≤ lastEnd (b + z) ps
+      go true i = omega (arith, last-mono a (remove-good P pos n g) (omega (arith, apart-le P pos d)))
+      go false i = i
+
+pub end-remove : {P : ℕ} {ps : List Piece} (n : Name) → 0 < P → Good P ps → endOf P (remove n ps) ≤ endOf P ps
+unfolding endOf
+end-remove {P} n pos g = up-mono P pos (last-remove P pos n g)
+
+-- ---- the release
+
+entry-is : {es : List Piece} {x : Piece} → List·Memᴰ x es → (i : ℕ) × EntryIs es i x
+entry-is {x = x} (List·Memᴰ·head {x = y} {xs = es} e) = (0, rw e entry-here)
+entry-is (List·Memᴰ·tail h) = let r = entry-is h in (suc (r .0), entry-later (r .1))
+
+module _ (sp : Space) (w : List ℕ) (n : Name) (s : SoundSpace sp w) (h : Among n (lives (entriesOf sp w))) where
+  abbrev left : List Piece
+  left = remove n (lives (entriesOf sp w))
+
+  not-missing : Missing ≡ findLive (n .address) (n .size) 0 (entriesOf sp w) → ⊥
+  not-missing e =
+      let l = among-live (entriesOf sp w) n h in
+      let i = entry-is (l .among) in
+      found-missing (n .address) (n .size) (entriesOf sp w) e (i .0) (l .entry) (i .1) (l .named)
+
+  released-settled : released sp (n .address) (n .size) w ≡ settled sp w left
+  unfolding released releasedAt
+  released-settled = refusing-no sp w _ notSound _ (ap not (sound-true sp w s)) ∙ go (findLive (n .address) (n .size) 0 (entriesOf sp w)) refl
+    where
+      go : (f : Found) → findLive (n .address) (n .size) 0 (entriesOf sp w) ≡ f → releasedAt sp (n .address) (n .size) w f ≡ settled sp w left
+      go (At i x) e = refl
+      go Missing e = absurd (not-missing (sym e))
+
+  pub left-few : length (fill (sp .page) left) ≤ capacity (length w)
+  left-few = omega (arith, s .ranges .count, sound-count sp w s, release-count n (page-pos (s .ranges .page)) (sound-good s))
+
+  pub left-good : Good (sp .page) left
+  left-good = remove-good (sp .page) (page-pos (s .ranges .page)) n (sound-good s)
+
+  pub left-within : endOf (sp .page) left ≤ sp .limit
+  left-within = omega (arith, s .ranges .end-limit, sound-ends sp w s, end-remove n (page-pos (s .ranges .page)) (sound-good s))
+
+  pub released-done : released sp (n .address) (n .size) w ≡ record { refusal = 0; state = stateOf sp left; words = tabled sp w left }
+  released-done = released-settled ∙ settled-room sp w left left-few

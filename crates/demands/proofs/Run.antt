@@ -1,0 +1,58 @@
+-- The run of document 01: the calls' own meanings compute, on state and words, and one `unfolding` line names every definition on the way.
+--
+-- Assumes nothing.
+use Prim.Native.Nat.{ℕ}
+use mathlib.Core.List.{List}
+use mathlib.Core.Path.{_≡_, refl, ap, _∙_}
+use lib.ListN.{length, replicate}
+use Rattle.choose.specs.Choose.{roomIn, fitsIn, bestOf, best}
+use Rattle.choose.specs.Spot.{largeSpot, smallSpot, spotOf}
+use Rattle.demands.specs.Calls.{called, ran}
+use Rattle.demands.specs.Demands.{TheRun}
+use Rattle.demands.specs.Run.{answered, played, callsOf, fiveSteps, twelveSteps, exchangedSteps, leftAfterFive, leftAfterTwelve, begun}
+use Rattle.find.specs.Find.{namedb, findLive}
+use Rattle.pages.specs.Pages.{down, up}
+use Rattle.pieces.specs.Pieces.{statusOf}
+use Rattle.pieces.specs.Words.{entryAt, entries, words, table}
+use Rattle.rules.specs.Edits.{insert, remove, resize}
+use Rattle.space.specs.Answers.{Outcome, refusing, settled}
+use Rattle.space.specs.Giving.{releasedAt, released, smallRoomb, largeRoomb, roomBehindb, growsBeyondb, extendedAt, extended, remainsb, shortenedAt, shortened}
+use Rattle.space.specs.Opening.{openingb, opened}
+use Rattle.space.specs.Placing.{classFor, refusingPlace, placedAt, placed, allocated}
+use Rattle.table.specs.Fill.{lives, free, lo, hi, gap, fillFrom, fill, lastEnd, endOf}
+use Rattle.table.specs.Local.{tableLengthb, rangesb, kindsb, zerosb, shapeb, besideb, cutb, entryb, chainb, localb}
+
+-- what an opening over 36 words leaves
+abbrev start : Outcome
+start = record { refusal = 0; state = record { page = 512; limit = 5120; end = 0; count = 0 }; words = replicate 36 0 }
+
+begun-over : (w : List ℕ) → length w ≡ 36 → begun w ≡ start
+unfolding opened openingb tableLengthb
+begun-over w e = rw e
+
+-- ---- the rules compute
+
+record FromStart : Type 0 where
+  twelve : played (callsOf twelveSteps) (start .state) (start .words) ≡ twelveSteps
+  after-five : ran (callsOf fiveSteps) (start .state) (start .words) ≡ leftAfterFive
+  after-twelve : ran (callsOf twelveSteps) (start .state) (start .words) ≡ leftAfterTwelve
+  exchanged : played (callsOf exchangedSteps) (start .state) (start .words) ≡ exchangedSteps
+  exchanged-ends : ran (callsOf exchangedSteps) (start .state) (start .words) ≡ leftAfterTwelve
+
+from-start : FromStart
+unfolding down up statusOf entryAt entries words table lives free lo hi gap fillFrom fill lastEnd endOf tableLengthb rangesb kindsb zerosb shapeb besideb cutb entryb chainb localb roomIn fitsIn bestOf best largeSpot smallSpot spotOf namedb findLive insert remove resize refusing settled classFor refusingPlace placedAt placed allocated releasedAt released smallRoomb largeRoomb roomBehindb growsBeyondb extendedAt extended remainsb shortenedAt shortened called ran answered played callsOf
+from-start = record { twelve = refl; after-five = refl; after-twelve = refl; exchanged = refl; exchanged-ends = refl }
+
+-- ---- the statement
+
+pub the-run : TheRun
+the-run w e =
+    let b : begun w ≡ start = begun-over w e in
+    record {
+      opening = ap (λ (o : Outcome). o .refusal) b;
+      twelve = ap (λ (o : Outcome). played (callsOf twelveSteps) (o .state) (o .words)) b ∙ from-start .twelve;
+      after-five = ap (λ (o : Outcome). ran (callsOf fiveSteps) (o .state) (o .words)) b ∙ from-start .after-five;
+      after-twelve = ap (λ (o : Outcome). ran (callsOf twelveSteps) (o .state) (o .words)) b ∙ from-start .after-twelve;
+      exchanged = ap (λ (o : Outcome). played (callsOf exchangedSteps) (o .state) (o .words)) b ∙ from-start .exchanged;
+      exchanged-ends = ap (λ (o : Outcome). ran (callsOf exchangedSteps) (o .state) (o .words)) b ∙ from-start .exchanged-ends;
+    }

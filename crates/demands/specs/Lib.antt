@@ -1,0 +1,6 @@
+-- The customer's theorems: Demands.antt is the file to read first.
+
+pub mod Calls
+pub mod Run
+pub mod Places
+pub mod Demands
