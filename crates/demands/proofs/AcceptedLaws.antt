@@ -1,9 +1,9 @@
 -- An accepted call of a sound table leaves the table and the state that good live pieces determine.
 --
 --   Changed sp w ps o      o is accepted, with what the good live pieces ps determine, within M and C
---   passed                 an accepted call was not refused by a test in front
---   released-changed, extended-changed, shortened-changed, allocated-changed     each call
---   PutAt                  what is known of an accepted allocation: its place, and that its piece fits there
+--   passed                 a call that is accepted, or refused with r, was not refused by a test in front of that
+--   released-changed, extended-changed, shortened-changed     each call
+--   PutAt t n b, allocated-put     an accepted allocation: b is the rule's place, the piece fits there, and so it is changed
 --
 -- Assumes nothing.
 use Prim.Native.Nat.{ℕ, _+_, _-_, _≤_, _<_}
@@ -55,7 +55,7 @@ pub record Changed (sp : Space) (w : List ℕ) (ps : List Piece) (o : Outcome) :
 
 -- ---- a test that an accepted call has passed
 
-pub passed : (sp : Space) (w : List ℕ) (t : Bool) (k : ℕ) (o : Outcome) → (k ≡ 0 → ⊥) → refusing sp w t k o .refusal ≡ 0
+pub passed : {r : ℕ} (sp : Space) (w : List ℕ) (t : Bool) (k : ℕ) (o : Outcome) → (k ≡ r → ⊥) → refusing sp w t k o .refusal ≡ r
     → (t ≡ false) × (refusing sp w t k o ≡ o)
 unfolding refusing
 passed sp w true k o n e = absurd (n e)
@@ -75,7 +75,7 @@ settled-changed sp w ps good within e =
     record { good = good; within = within; few = few; is = settled-room sp w ps few }
 
 module _ (sp : Space) (w : List ℕ) (s : SoundSpace sp w) where
-  pos : 0 < sp .page
+  pub pos : 0 < sp .page
   pos = page-pos (s .ranges .page)
 
   -- the page of a piece that was live ends within M
@@ -102,10 +102,10 @@ module _ (sp : Space) (w : List ℕ) (s : SoundSpace sp w) where
   -- ---- a piece that was found, resized
 
   module _ (a z i : ℕ) (x : Piece) (f : FoundAt a z (entriesOf sp w) i x) where
-    abbrev class : Class
+    abbrev pub class : Class
     class = f .named .class
 
-    here : From (sp .page) pos (sp .end) a z class (entriesBehind sp w i)
+    pub here : From (sp .page) pos (sp .end) a z class (entriesBehind sp w i)
     here = from (sp .page) pos (sound-chain s) (found-stands sp w s a z i x f)
 
     -- its page ends within M, and so do those of the others

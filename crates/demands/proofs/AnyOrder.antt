@@ -10,16 +10,17 @@ use Prim.Native.Nat.{ℕ}
 use mathlib.Core.List.{List, [], _∷_, List·Memᴰ, List·Memᴰ·head, List·Memᴰ·tail, List·Permᴰ, List·Permᴰ·nil, List·Permᴰ·cons, List·Permᴰ·swap, List·Permᴰ·trans, Permᴰ·refl}
 use mathlib.Core.Path.{_≡_, refl, sym, ap, _∙_}
 use lib.ListN.{length, replicate}
+use Rattle.demands.proofs.AcceptedLaws.{released-changed}
 use Rattle.demands.proofs.KeepLaws.{tabled, tabled-length, tabled-lives, tabled-sound, sound-words, sound-state}
 use Rattle.demands.proofs.Lists.{perm-among, perm-length}
-use Rattle.demands.proofs.ReleaseLaws.{Among, live-among, among-remove, left-few, left-good, left-within, released-done}
-use Rattle.demands.specs.Calls.{called, ran, releasesOf, removeAll, SoundSpace, Distinct, distinct-none, distinct-more}
+use Rattle.demands.proofs.ReleaseLaws.{Among, live-among, among-remove, released-done}
+use Rattle.demands.specs.Calls.{called, Ran, ran, releasesOf, removeAll, SoundSpace, Distinct, distinct-none, distinct-more}
 use Rattle.demands.specs.Demands.{acceptedAll, AnyOrder, TwoOrders}
 use Rattle.pieces.specs.Words.{table}
 use Rattle.pieces.specs.declared.Piece.{Piece}
 use Rattle.rules.proofs.RemoveLaws.{remove-swap}
 use Rattle.rules.specs.Edits.{Name, remove}
-use Rattle.space.specs.Answers.{entriesOf, stateOf}
+use Rattle.space.specs.Answers.{entriesOf, stateOf, Outcome}
 use Rattle.space.specs.Giving.{released}
 use Rattle.space.specs.declared.Space.{Space}
 use Rattle.table.specs.Fill.{lives, fill}
@@ -47,32 +48,53 @@ distinct-perm (List·Permᴰ·trans d e) h = distinct-perm e (distinct-perm d h)
 -- ---- a run of releases
 
 -- one call more
-ran-more : (sp : Space) (w : List ℕ) (n : Name) (ns : List Name) (next : Space) (v : List ℕ) (k : ℕ) (last : Space) (u : List ℕ)
-    → released sp (n .address) (n .size) w ≡ record { refusal = 0; state = next; words = v }
-    → ran (releasesOf ns) next v ≡ record { refusals = replicate k 0; state = last; words = u }
-    → ran (releasesOf (n ∷ ns)) sp w ≡ record { refusals = 0 ∷ replicate k 0; state = last; words = u }
-unfolding ran releasesOf called
-ran-more sp w n ns next v k last u e f = rw (e, f)
+then : ℕ → Ran → Ran
+then k r = record { refusals = k ∷ r .refusals; state = r .state; words = r .words }
+
+ran-more : (sp : Space) (w : List ℕ) (n : Name) (ns : List Name) (next : Space) (v : List ℕ) (r : Ran)
+    → released sp (n .address) (n .size) w ≡ record { refusal = 0; state = next; words = v } → ran (releasesOf ns) next v ≡ r
+    → ran (releasesOf (n ∷ ns)) sp w ≡ then 0 r
+unfolding ran releasesOf called then
+ran-more sp w n ns next v r e f =
+    ap (λ (o : Outcome). then (o .refusal) (ran (releasesOf ns) (o .state) (o .words))) e ∙ ap (then 0) f
+
+-- what a release leaves: a sound table with the live pieces that are left, as long as it was
+record Left (sp : Space) (w : List ℕ) (ps : List Piece) : Type 0 where
+  sound : SoundSpace (stateOf sp ps) (tabled sp w ps)
+  live : lives (entriesOf (stateOf sp ps) (tabled sp w ps)) ≡ ps
+  slice : length (tabled sp w ps) ≡ length w
+
+left : (sp : Space) (w : List ℕ) (n : Name) → SoundSpace sp w → Among n (lives (entriesOf sp w)) → Left sp w (remove n (lives (entriesOf sp w)))
+left sp w n s h =
+    let ps : List Piece = remove n (lives (entriesOf sp w)) in
+    let k = released-changed sp w s (n .address) (n .size) (ap (λ (o : Outcome). o .refusal) (released-done sp w n s h)) in
+    record {
+      sound = tabled-sound sp w ps s (k .good) (k .within) (k .few);
+      live = tabled-lives sp w ps (k .good);
+      slice = tabled-length sp w ps (k .few);
+    }
+
+-- all accepted from what is left is all accepted from the start
+accepted-left : {sp : Space} {w : List ℕ} {ps : List Piece} (k : ℕ) (ns : List Name) → Left sp w ps
+    → acceptedAll (stateOf sp ps) (tabled sp w ps) k (removeAll ns (lives (entriesOf (stateOf sp ps) (tabled sp w ps)))) ≡ acceptedAll sp w k (removeAll ns ps)
+accepted-left {sp} {w} {ps} k ns h =
+    ap (λ (qs : List Piece). acceptedAll (stateOf sp ps) (tabled sp w ps) k (removeAll ns qs)) (h .live)
+    ∙ ap (λ (len : ℕ). record { refusals = replicate k 0; state = stateOf sp (removeAll ns ps); words = table len (fill (sp .page) (removeAll ns ps)) })
+    (h .slice)
 
 pub releases-ran : {ns : List Name} (sp : Space) (w : List ℕ) → SoundSpace sp w → Distinct ns
     → ((n : Name) → List·Memᴰ n ns → Among n (lives (entriesOf sp w)))
     → ran (releasesOf ns) sp w ≡ acceptedAll sp w (length ns) (removeAll ns (lives (entriesOf sp w)))
-unfolding ran releasesOf removeAll
+unfolding ran releasesOf removeAll then
 releases-ran sp w s distinct-none live = λ i. record { refusals = []; state = sound-state sp w s i; words = sound-words sp w s i }
 releases-ran sp w s (distinct-more {n = n} {ns = ns} other others) live =
     let h = live n (List·Memᴰ·head refl) in
     let ps : List Piece = remove n (lives (entriesOf sp w)) in
-    let next : Space = stateOf sp ps in
-    let v : List ℕ = tabled sp w ps in
-    let l : lives (entriesOf next v) ≡ ps = tabled-lives sp w ps (left-good sp w n s h) in
-    let left : List Piece = removeAll ns ps in
-    let r = releases-ran {ns = ns} next v (tabled-sound sp w ps s (left-good sp w n s h) (left-within sp w n s h) (left-few sp w n s h)) others
-    (λ m i. rw l (among-remove m n (λ e. other (rw e at i)) (live m (List·Memᴰ·tail i)))) in
-    ran-more sp w n ns next v (length ns) (stateOf sp left) (tabled sp w left) (released-done sp w n s h)
-    (r
-    ∙ (ap (λ (qs : List Piece). acceptedAll next v (length ns) (removeAll ns qs)) l
-    ∙ ap (λ (len : ℕ). record { refusals = replicate (length ns) 0; state = stateOf sp left; words = table len (fill (sp .page) left) })
-    (tabled-length sp w ps (left-few sp w n s h))))
+    let l : Left sp w ps = left sp w n s h in
+    let r = releases-ran {ns = ns} (stateOf sp ps) (tabled sp w ps) (l .sound) others
+    (λ m i. rw (l .live) (among-remove m n (λ e. other (rw e at i)) (live m (List·Memᴰ·tail i)))) in
+    ran-more sp w n ns (stateOf sp ps) (tabled sp w ps) (acceptedAll sp w (length ns) (removeAll ns ps)) (released-done sp w n s h)
+    (r ∙ accepted-left (length ns) ns l)
 
 -- ---- the statements
 

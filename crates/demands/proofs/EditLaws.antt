@@ -1,6 +1,6 @@
 -- The members of an edited list of live pieces, and what good live pieces leave between them.
 --
---   Apart x y                   x lies before y, or behind it
+--   Apart a b y                 y lies before a, or from b on
 --   in-insert, in-remove, in-resize      the members of an edited list
 --   insert-stays, resize-stays           a piece that is not named is still a member
 --   insert-apart                a piece among good ones has no byte in common with the others

@@ -1,6 +1,6 @@
--- Demand 2: one live piece is edited and no other, in bytes that were in no live piece, at the rule's place.
+-- Demand 2: one live piece is edited and no other, in bytes that were in no live piece.
 --
---   edits, new-bytes, placing     the statements
+--   edits, new-bytes     the statements
 --
 -- Assumes nothing.
 use Prim.Native.Nat.{ℕ, _+_, _-_, _≤_, _<_}
@@ -8,42 +8,28 @@ use mathlib.Core.Bool.{Bool, true, false}
 use mathlib.Core.List.{List, List·Memᴰ}
 use mathlib.Core.Path.{_≡_, refl, sym, ap, _∙_}
 use native.Mathlib.Omega.{arith}
-use lib.Dec.{ltb}
-use lib.ListN.{length}
-use borrow.Author.Tests.{ltb-true, lt-ltb}
 use Rattle.choose.proofs.BestLaws.{entry-among}
-use Rattle.choose.specs.Spot.{spotOf}
-use Rattle.choose.specs.declared.spot.Spot.{Spot}
-use Rattle.demands.proofs.AcceptedLaws.{passed, allocated-put}
+use Rattle.demands.proofs.AcceptedLaws.{passed}
 use Rattle.demands.proofs.EditLaws.{insert-stays, resize-stays, Apart, before, after, insert-apart, NamedOr, is-named, is-apart, resize-apart}
-use Rattle.demands.proofs.KeepLaws.{tabled-lives, sound-true}
+use Rattle.demands.proofs.KeepLaws.{tabled-lives}
 use Rattle.demands.proofs.Keeps.{changed}
-use Rattle.demands.proofs.PlaceRule.{SpotIs, inside, outside, spot-is}
 use Rattle.demands.proofs.ReleaseLaws.{live-among, mem-remove}
 use Rattle.demands.specs.Calls.{Call, allocates, extends, called, OnSpace, allocating, releasing, extending, shortening, livesOf, livesAfter, edited, Unnamed, IsLive}
-use Rattle.demands.specs.Demands.{accepted, refused, Accepted, Edits, NotLive, NewBytes, Asked, Placing}
-use Rattle.demands.specs.Places.{PlaceIs, InSection, in-small-entry, in-page, in-large-entry, NoSection}
+use Rattle.demands.specs.Demands.{accepted, Accepted, Edits, NotLive, NewBytes}
 use Rattle.find.proofs.FindLaws.{found-at}
 use Rattle.find.specs.Find.{findLive}
 use Rattle.find.specs.declared.Found.the-variants.{At, Missing}
 use Rattle.find.specs.declared.Found.{Found}
-use Rattle.pages.proofs.Numbers.{and-left, and-right, not-both}
 use Rattle.pages.proofs.PageLaws.{page-pos}
-use Rattle.pages.specs.Pages.{up}
 use Rattle.pieces.specs.Pieces.{piece}
-use Rattle.pieces.specs.Words.{table}
-use Rattle.pieces.specs.declared.Class.{Class}
 use Rattle.pieces.specs.declared.Piece.{Piece}
 use Rattle.pieces.specs.declared.Status.the-variants.{Live}
 use Rattle.rules.proofs.RemoveLaws.{named-address, named-size}
 use Rattle.rules.specs.Edits.{names}
-use Rattle.space.proofs.PlaceLaws.{refusing-place-yes, refusing-place-no, allocated-placed}
-use Rattle.space.specs.Answers.{notSound, zeroAsked, beyondLimit, tableFull, entriesOf, Outcome, refusing, stateOf, settled}
+use Rattle.space.specs.Answers.{notSound, zeroAsked, entriesOf, Outcome}
 use Rattle.space.specs.Giving.{nameOf, extendedAt, extended}
-use Rattle.space.specs.Placing.{classFor, beyondb, atEndb, Placed, placedAt, placed, allocated}
+use Rattle.space.specs.Placing.{classFor, allocated}
 use Rattle.space.specs.declared.Space.{Space}
-use Rattle.table.specs.Fill.{fill}
-use Rattle.table.specs.Sound.{capacity}
 use Rattle.table.specs.Theorems.{Holds}
 
 -- ---- the live pieces
@@ -114,72 +100,3 @@ extended-new sp a z m w h v l u x i k =
 
 pub new-bytes : NewBytes
 new-bytes = record { allocating = allocated-new; extending = extended-new }
-
--- ---- the place, and refusal 5
-
-section-then-place : {P n b : ℕ} {k : Class} {es : List Piece} → InSection P k n es b → NoSection P k n es → ⊥
-section-then-place (in-small-entry {x = x} t h e) f = f .no-small-entry t x (entry-among (h .entry)) (h .fitting)
-section-then-place (in-page {x = x} t g h e) f = f .no-page t x (entry-among (h .entry)) (h .fitting)
-section-then-place (in-large-entry {x = x} q h e) f = f .no-large-entry q x (entry-among (h .entry)) (h .fitting)
-
--- a change that is settled is not refused with 5
-settled-not-five : (sp : Space) (w : List ℕ) (ps : List Piece) → settled sp w ps .refusal ≡ beyondLimit → ⊥
-unfolding settled refusing
-settled-not-five sp w ps e = go (ltb (capacity (length w)) (length (fill (sp .page) ps))) e
-  where
-    go : (t : Bool) → refusing sp w t tableFull (record { refusal = 0; state = stateOf sp ps; words = table (length w) (fill (sp .page) ps) }) .refusal ≡ beyondLimit → ⊥
-    go true i = omega (arith, i)
-    go false i = omega (arith, i)
-
-module _ (sp : Space) (t s : ℕ) (w : List ℕ) (h : Asked sp t s w) where
-  abbrev class : Class
-  class = classFor (sp .page) t s
-
-  abbrev spot : Spot
-  spot = spotOf (sp .page) class s (entriesOf sp w)
-
-  asked-placed : allocated sp t s w ≡ placed sp class s w spot
-  asked-placed = allocated-placed sp t s w (sound-true sp w (h .sound)) (h .type) (λ e. omega (arith, h .some)) class spot refl refl
-
-  five-beyond : placed sp class s w spot .outcome .refusal ≡ beyondLimit → beyondb sp s spot ≡ true
-  unfolding placed placedAt
-  five-beyond e = go (beyondb sp s spot) refl
-    where
-      go : (b : Bool) → beyondb sp s spot ≡ b → beyondb sp s spot ≡ true
-      go true f = f
-      go false f =
-          let q = refusing-place-no sp w (beyondb sp s spot) beyondLimit _ f in
-          absurd (settled-not-five sp w _ (sym (ap (λ (p : Placed). p .outcome .refusal) q) ∙ e))
-
-  beyond-end : (q : Spot) → SpotIs sp w (h .sound) class s q → beyondb sp s q ≡ true
-      → NoSection (sp .page) class s (entriesOf sp w) × (sp .limit < up (sp .page) (sp .end + s))
-  beyond-end q (inside b i e f) g = absurd (not-both (and-left (atEndb q) (ltb (sp .limit) (up (sp .page) (sp .end + s))) g) f)
-  beyond-end q (outside i e) g =
-      (i, ltb-true (sp .limit) (up (sp .page) (sp .end + s)) (and-right (atEndb q) (ltb (sp .limit) (up (sp .page) (sp .end + s))) g))
-
-  end-beyond : (q : Spot) → SpotIs sp w (h .sound) class s q → NoSection (sp .page) class s (entriesOf sp w)
-      → sp .limit < up (sp .page) (sp .end + s) → beyondb sp s q ≡ true
-  end-beyond q (inside b i e f) g l = absurd (section-then-place i g)
-  end-beyond q (outside i e) g l = rw (e, lt-ltb (sp .limit) (up (sp .page) (sp .end + s)) l)
-
-  five-when : called (allocates t s) sp w .refusal ≡ beyondLimit
-      → NoSection (sp .page) class s (entriesOf sp w) × (sp .limit < up (sp .page) (sp .end + s))
-  unfolding called
-  five-when e =
-      beyond-end spot (spot-is sp w (h .sound) class s)
-      (five-beyond (sym (ap (λ (p : Placed). p .outcome .refusal) asked-placed) ∙ e))
-
-  five-then : NoSection (sp .page) class s (entriesOf sp w) → sp .limit < up (sp .page) (sp .end + s)
-      → called (allocates t s) sp w .refusal ≡ beyondLimit
-  unfolding called placed
-  five-then g l =
-      ap (λ (p : Placed). p .outcome .refusal)
-      (asked-placed ∙ refusing-place-yes sp w (beyondb sp s spot) beyondLimit _ (end-beyond spot (spot-is sp w (h .sound) class s) g l))
-
-place-is : (sp : Space) (t s : ℕ) (w : List ℕ) → Accepted (allocates t s) sp w
-    → PlaceIs (sp .page) (sp .end) (classFor (sp .page) t s) s (entriesOf sp w) (allocated sp t s w .address)
-unfolding called
-place-is sp t s w h = allocated-put sp w (h .sound) t s (h .done) .place
-
-pub placing : Placing
-placing = record { place = place-is; five = five-when; five-only = five-then }

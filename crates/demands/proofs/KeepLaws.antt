@@ -4,7 +4,7 @@
 --   tabled-length         it is as long as w
 --   tabled-sound          with the state that they determine it is sound, if E stays within M and n within C
 --   tabled-lives          its live entries are ps
---   sound-tabled          a sound table is the one that its live pieces determine, and so is the state
+--   sound-ends, sound-count, sound-words, sound-state    end, count, words and state of a sound table are those that its live pieces determine
 --   sound-true            the code's test is true of what is sound
 --
 -- Assumes nothing.
@@ -24,7 +24,7 @@ use Rattle.space.specs.Answers.{soundb, entriesOf, stateOf}
 use Rattle.space.specs.declared.Space.{Space}
 use Rattle.table.proofs.Theorems.{local-form, determined, sound-table, fill-form, fill-lives}
 use Rattle.table.specs.Fill.{lives, lastEnd, fill, endOf, Good}
-use Rattle.table.specs.Sound.{capacity}
+use Rattle.table.specs.Sound.{capacity, Ranges}
 
 abbrev pub tabled : Space → List ℕ → List Piece → List ℕ
 tabled sp w ps = table (length w) (fill (sp .page) ps)
@@ -43,21 +43,27 @@ pub tabled-lives : (sp : Space) (w : List ℕ) (ps : List Piece) → Good (sp .p
 tabled-lives sp w ps good =
     ap lives (entries-of-table (length w) (fill (sp .page) ps)) ∙ fill-lives (sp .page) ps good
 
+tabled-ranges : (sp : Space) (w : List ℕ) (ps : List Piece) → SoundSpace sp w → endOf (sp .page) ps ≤ sp .limit
+    → length (fill (sp .page) ps) ≤ capacity (length w)
+    → Ranges (sp .page) (sp .limit) (endOf (sp .page) ps) (length (fill (sp .page) ps)) (length w)
+tabled-ranges sp w ps s within few =
+    record {
+      page = s .ranges .page;
+      limit-least = s .ranges .limit-least;
+      limit-largest = s .ranges .limit-largest;
+      end-border = end-border (sp .page) ps (page-pos (s .ranges .page));
+      end-limit = within;
+      count = few;
+      slice = s .ranges .slice;
+    }
+
 pub tabled-sound : (sp : Space) (w : List ℕ) (ps : List Piece) → SoundSpace sp w → Good (sp .page) ps → endOf (sp .page) ps ≤ sp .limit
     → length (fill (sp .page) ps) ≤ capacity (length w) → SoundSpace (stateOf sp ps) (tabled sp w ps)
 tabled-sound sp w ps s good within few =
     let l : length (tabled sp w ps) ≡ length w = tabled-length sp w ps few in
     fill-form (sp .page) (sp .limit) (endOf (sp .page) ps) (length (fill (sp .page) ps)) (tabled sp w ps) .1
     (record {
-      ranges = record {
-        page = s .ranges .page;
-        limit-least = s .ranges .limit-least;
-        limit-largest = s .ranges .limit-largest;
-        end-border = end-border (sp .page) ps (page-pos (s .ranges .page));
-        end-limit = within;
-        count = rw l few;
-        slice = rw l (s .ranges .slice);
-      };
+      ranges = rw l (tabled-ranges sp w ps s within few);
       live = ps;
       good = good;
       ends = refl;

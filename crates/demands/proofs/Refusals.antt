@@ -2,7 +2,7 @@
 --
 --   refusing-answered     one refusal more in front of an answer
 --   settled-answered      a change that may find the table full
---   refusing-outcome      the outcome of a refused place
+--   refusing-place, refusing-list    the same of a place and of a listing
 --   refusals              the statement
 --
 -- Assumes nothing.

@@ -1,13 +1,14 @@
 -- A release of a live piece of a sound table is accepted, and what is left of it.
 --
 --   Among n ps          one of the pieces ps has this name
+--   lives-entry         a live piece is an entry, and live
 --   live-among, among-live    a live entry's name is one of the live pieces'
---   among-remove        another piece's removal leaves it
---   end-remove          the file does not grow
+--   mem-remove, among-remove  another piece's removal leaves it
+--   entry-is            an entry has a number
 --   released-done       the release is accepted: the table and the state of the live pieces without it
 --
 -- Assumes nothing.
-use Prim.Native.Nat.{ℕ, suc, _+_, _≤_, _<_}
+use Prim.Native.Nat.{ℕ, suc, _≤_}
 use mathlib.Core.Bool.{Bool, true, false, cond, not}
 use mathlib.Core.List.{List, [], _∷_, List·Memᴰ, List·Memᴰ·head, List·Memᴰ·tail}
 use mathlib.Core.Path.{_≡_, refl, sym, ap, _∙_}
@@ -15,29 +16,28 @@ use native.Mathlib.Omega.{arith}
 use lib.ListN.{length}
 use borrow.Author.Tests.{eq-eqb}
 use Rattle.change.proofs.AroundLaws.{lives-live, lives-free}
-use Rattle.demands.proofs.KeepLaws.{tabled, sound-true, sound-ends, sound-count}
+use Rattle.demands.proofs.KeepLaws.{tabled, sound-true, sound-count}
 use Rattle.demands.specs.Calls.{SoundSpace, IsLive}
 use Rattle.find.proofs.FindLaws.{found-missing}
 use Rattle.find.specs.Find.{findLive}
 use Rattle.find.specs.declared.Found.the-variants.{At, Missing}
 use Rattle.find.specs.declared.Found.{Found}
 use Rattle.pages.proofs.Numbers.{both}
-use Rattle.pages.proofs.PageLaws.{page-pos, up-mono}
+use Rattle.pages.proofs.PageLaws.{page-pos}
 use Rattle.pieces.specs.Pieces.{piece, EntryIs, entry-here, entry-later}
 use Rattle.pieces.specs.declared.Class.{Class}
 use Rattle.pieces.specs.declared.Piece.{Piece}
 use Rattle.pieces.specs.declared.Status.the-variants.{Live, Free}
 use Rattle.pieces.specs.declared.Status.{Status}
 use Rattle.rules.proofs.CountLaws.{release-count}
-use Rattle.rules.proofs.RemoveLaws.{named-address, named-size, remove-good}
+use Rattle.rules.proofs.RemoveLaws.{named-address, named-size}
 use Rattle.rules.specs.Edits.{Name, names, remove}
 use Rattle.space.proofs.SettleLaws.{refusing-no, settled-room}
 use Rattle.space.specs.Answers.{notSound, entriesOf, stateOf, settled}
 use Rattle.space.specs.Giving.{releasedAt, released}
 use Rattle.space.specs.declared.Space.{Space}
-use Rattle.table.proofs.GapLaws.{apart-le}
 use Rattle.table.proofs.Theorems.{sound-good}
-use Rattle.table.specs.Fill.{consLive, lives, lastEnd, fill, endOf, GoodFrom, none, next, Good}
+use Rattle.table.specs.Fill.{consLive, lives, fill}
 use Rattle.table.specs.Sound.{capacity}
 
 -- ---- a live piece by its name
@@ -128,31 +128,9 @@ among-remove n m {ps} other h = go (names m (h .it)) refl
     go true f = absurd (other (one-name n m (h .it) (h .named) f))
     go false f = record { it = h .it; among = mem-remove m f (h .among); named = h .named }
 
--- ---- the file does not grow
-
-module _ (P : ℕ) (pos : 0 < P) where
-  last-mono : {k : Class} {ps : List Piece} (a : ℕ) {e : ℕ} → GoodFrom P k e ps → a ≤ e → lastEnd a ps ≤ lastEnd e ps
-  unfolding lastEnd
-  last-mono a none l = l
-  last-mono a (next d w g) l = omega arith
-
-  last-remove : {k : Class} {a : ℕ} {ps : List Piece} (n : Name) → GoodFrom P k a ps → lastEnd a (remove n ps) ≤ lastEnd a ps
-  unfolding remove lastEnd
-  last-remove n none = omega arith
-  last-remove {a = a} n (next {m = m} {b = b} {z = z} {ps = ps} d w g) = go (names n (piece b z (Live m))) (last-remove n g)
-    where
-      go : (t : Bool) → lastEnd (b + z) (remove n ps) ≤ lastEnd (b + z) ps
-          → lastEnd a (cond t (remove n ps) (piece b z (Live m) ∷ remove n ps)) ≤ lastEnd (b + z) ps
-      go true i = omega (arith, last-mono a (remove-good P pos n g) (omega (arith, apart-le P pos d)))
-      go false i = i
-
-pub end-remove : {P : ℕ} {ps : List Piece} (n : Name) → 0 < P → Good P ps → endOf P (remove n ps) ≤ endOf P ps
-unfolding endOf
-end-remove {P} n pos g = up-mono P pos (last-remove P pos n g)
-
 -- ---- the release
 
-entry-is : {es : List Piece} {x : Piece} → List·Memᴰ x es → (i : ℕ) × EntryIs es i x
+pub entry-is : {es : List Piece} {x : Piece} → List·Memᴰ x es → (i : ℕ) × EntryIs es i x
 entry-is {x = x} (List·Memᴰ·head {x = y} {xs = es} e) = (0, rw e entry-here)
 entry-is (List·Memᴰ·tail h) = let r = entry-is h in (suc (r .0), entry-later (r .1))
 
@@ -174,14 +152,8 @@ module _ (sp : Space) (w : List ℕ) (n : Name) (s : SoundSpace sp w) (h : Among
       go (At i x) e = refl
       go Missing e = absurd (not-missing (sym e))
 
-  pub left-few : length (fill (sp .page) left) ≤ capacity (length w)
+  left-few : length (fill (sp .page) left) ≤ capacity (length w)
   left-few = omega (arith, s .ranges .count, sound-count sp w s, release-count n (page-pos (s .ranges .page)) (sound-good s))
-
-  pub left-good : Good (sp .page) left
-  left-good = remove-good (sp .page) (page-pos (s .ranges .page)) n (sound-good s)
-
-  pub left-within : endOf (sp .page) left ≤ sp .limit
-  left-within = omega (arith, s .ranges .end-limit, sound-ends sp w s, end-remove n (page-pos (s .ranges .page)) (sound-good s))
 
   pub released-done : released sp (n .address) (n .size) w ≡ record { refusal = 0; state = stateOf sp left; words = tabled sp w left }
   released-done = released-settled ∙ settled-room sp w left left-few

@@ -7,7 +7,7 @@
 --   OnSpace c            it takes a state: it is not an opening
 --   Ran                  what a run of calls leaves: the refusal number of each, and state and words after the last
 --   ran cs sp w          the calls cs in their order, each with the state and the words that the one before it left
---   releases ns          the run that releases each piece named
+--   releasesOf ns        the run that releases each piece named
 --   removeAll ns ps      the live pieces ps without those named
 --
 --   livesOf sp w         the live pieces of a table

@@ -22,7 +22,9 @@ use Rattle.demands.specs.Places.{NoSection, PlaceIs}
 use Rattle.demands.specs.Run.{fiveSteps, twelveSteps, exchangedSteps, leftAfterFive, leftAfterTwelve, begun, playedOver, ranOver}
 use Rattle.pages.specs.Pages.{up}
 use Rattle.pieces.specs.Words.{entryAt, table}
+use Rattle.pieces.specs.declared.Class.the-variants.{Large}
 use Rattle.pieces.specs.declared.Piece.{Piece}
+use Rattle.pieces.specs.declared.Status.the-variants.{Live}
 use Rattle.rules.specs.Edits.{Name}
 use Rattle.space.specs.Answers.{beyondLimit, notSound, noAddress, entriesOf, Outcome, stateOf}
 use Rattle.space.specs.Giving.{released, extended, shortened}
@@ -102,6 +104,15 @@ pub record Asked (sp : Space) (t s : ℕ) (w : List ℕ) : Type 0 where
   pub type : typeb t ≡ true
   pub some : 1 ≤ s
 
+-- the live large piece of z bytes at a is the last of the file
+pub record LastLarge (sp : Space) (w : List ℕ) (a z : ℕ) : Type 0 where
+  pub entry : Piece
+  pub among : List·Memᴰ entry (entriesOf sp w)
+  pub live : entry .status ≡ Live Large
+  pub address : entry .address ≡ a
+  pub size : entry .size ≡ z
+  pub last : a + z ≡ sp .end
+
 pub record Placing : Type 0 where
   pub place : (sp : Space) (t s : ℕ) (w : List ℕ) → Accepted (allocates t s) sp w
       → PlaceIs (sp .page) (sp .end) (classFor (sp .page) t s) s (entriesOf sp w) (allocated sp t s w .address)
@@ -111,6 +122,11 @@ pub record Placing : Type 0 where
   pub five-only : (sp : Space) (t s : ℕ) (w : List ℕ) → Asked sp t s w
       → NoSection (sp .page) (classFor (sp .page) t s) s (entriesOf sp w) → sp .limit < up (sp .page) (sp .end + s)
       → called (allocates t s) sp w .refusal ≡ beyondLimit
+  -- and of an extend: a large piece ends at E, and E, grown by the fewest whole pages that hold m, would pass M
+  pub extend-five : (sp : Space) (a z m : ℕ) (w : List ℕ) → SoundSpace sp w → called (extends a z m) sp w .refusal ≡ beyondLimit
+      → LastLarge sp w a z × (sp .limit < up (sp .page) (a + z + m))
+  pub extend-five-only : (sp : Space) (a z m : ℕ) (w : List ℕ) → SoundSpace sp w → 1 ≤ m → LastLarge sp w a z
+      → sp .limit < up (sp .page) (a + z + m) → called (extends a z m) sp w .refusal ≡ beyondLimit
 
 abbrev pub Runs : Type 0
 Runs =

@@ -1,0 +1,371 @@
+// The benchmark's workload through a plain C version of the file space manager: the same checks on every call, the same results, written
+// by hand from document 01. crates/bench is the same workload through the proved library, and must write the same.
+//
+//   is_sound      the whole table, in one pass, on every call; a small entry costs no division
+//   best          the best fit among the free entries of a kind
+//   free_entry    an entry is freed: merged with its neighbours, its emptied page handed over, the file's end cut
+//   splice        entries replaced in place
+//   space_allocate, space_release      the calls, on a struct and a lent table
+//
+// It uses the C library for `read` and `write` alone, and no header, since the kit's compiler has none. Not here: extending, shortening and
+// listing, which the workload has not.
+typedef __UINT64_TYPE__ uint64_t;
+typedef __SIZE_TYPE__ size_t;
+typedef _Bool bool;
+enum { false, true };
+#define UINT64_MAX __UINT64_MAX__
+
+long read(int fd, void *to, size_t bytes);
+long write(int fd, const void *from, size_t bytes);
+
+enum { ENTRY_WORDS = 3, MOST_WORDS = 3072, LEAST_WORDS = 12 };
+enum { METADATA = 1, RAW = 2 };
+enum { LIVE_LARGE = 3, FREE_METADATA = 4, FREE_RAW = 5, FREE_LARGE = 6, TO_FREE = 3 };
+enum { NOT_SOUND = 2, UNKNOWN_TYPE = 3, NO_BYTES = 4, BEYOND_LIMIT = 5, TABLE_FULL = 6, NOT_LIVE = 7 };
+
+static const uint64_t LEAST_PAGE = 512, LARGEST_PAGE = 1u << 30, LARGEST_LIMIT = (uint64_t)1 << 62;
+
+struct space {
+    uint64_t page, limit, end, count;
+};
+
+struct entry {
+    uint64_t address, size, kind;
+};
+
+// A refusal's number, 0 on success.
+struct placed {
+    int refusal;
+    uint64_t address;
+};
+
+static struct entry entry_at(const uint64_t *table, size_t i) {
+    const uint64_t *w = table + i * ENTRY_WORDS;
+    return (struct entry){w[0], w[1], w[2]};
+}
+
+static void put(uint64_t *table, size_t i, struct entry e) {
+    uint64_t *w = table + i * ENTRY_WORDS;
+    w[0] = e.address;
+    w[1] = e.size;
+    w[2] = e.kind;
+}
+
+static bool is_live(uint64_t kind) {
+    return kind <= LIVE_LARGE;
+}
+
+static uint64_t round_up(uint64_t page, uint64_t a) {
+    return (a + page - 1) / page * page;
+}
+
+// Kinds 1 and 4, 2 and 5, 3 and 6 are a family.
+static uint64_t family(uint64_t kind) {
+    return kind > TO_FREE ? kind - TO_FREE : kind;
+}
+
+// An entry behind `former`, with `left` bytes to the next border, keeps the rules.
+static bool entry_holds(uint64_t page, uint64_t left, uint64_t former, struct entry e) {
+    bool at_border = left == page;
+    if (family(e.kind) != LIVE_LARGE) {
+        if (e.size >= page || e.size > left)
+            return false;
+    } else if (e.kind == LIVE_LARGE) {
+        if (!at_border || e.size < page)
+            return false;
+    }
+    if (at_border)
+        return !(former == FREE_LARGE && e.kind == FREE_LARGE);
+    return family(former) == family(e.kind) && (is_live(former) || is_live(e.kind));
+}
+
+static bool entries_hold(const struct space *s, const uint64_t *table) {
+    uint64_t at = 0, left = s->page, former = LIVE_LARGE;
+    for (size_t i = 0; i < s->count; i++) {
+        struct entry e = entry_at(table, i);
+        if (e.kind < 1 || e.kind > FREE_LARGE || e.address != at || e.size < 1 || e.size > s->end - at)
+            return false;
+        if (!entry_holds(s->page, left, former, e))
+            return false;
+        if (i + 1 == s->count && e.kind == FREE_LARGE && e.size >= s->page)
+            return false;
+        at += e.size;
+        if (e.size < left)
+            left -= e.size;
+        else if (e.size == left)
+            left = s->page;
+        else
+            left = s->page - (e.size - left) % s->page;
+        former = e.kind;
+    }
+    return at == s->end;
+}
+
+static bool is_sound(const struct space *s, const uint64_t *table, size_t words) {
+    if (s->page < LEAST_PAGE || s->page > LARGEST_PAGE || s->limit < s->page || s->limit > LARGEST_LIMIT)
+        return false;
+    if (s->end % s->page != 0 || s->end > s->limit)
+        return false;
+    if (words % ENTRY_WORDS != 0 || words < LEAST_WORDS || words > MOST_WORDS || s->count > words / ENTRY_WORDS)
+        return false;
+    if (!entries_hold(s, table))
+        return false;
+    for (size_t i = s->count * ENTRY_WORDS; i < words; i++)
+        if (table[i] != 0)
+            return false;
+    return true;
+}
+
+// Words move within the table. A loop, and not `memmove`, whose vector instructions an emulator makes dear.
+static void move(uint64_t *table, size_t to, size_t from, size_t words) {
+    if (to < from)
+        for (size_t k = 0; k < words; k++)
+            table[to + k] = table[from + k];
+    else if (to > from)
+        for (size_t k = words; k-- > 0;)
+            table[to + k] = table[from + k];
+}
+
+// Entries from i up to j become these.
+static void splice(struct space *s, uint64_t *table, size_t i, size_t j, const struct entry *with, size_t count) {
+    size_t behind = s->count - j, total = i + count + behind;
+    move(table, (i + count) * ENTRY_WORDS, j * ENTRY_WORDS, behind * ENTRY_WORDS);
+    for (size_t k = 0; k < count; k++)
+        put(table, i + k, with[k]);
+    for (size_t k = total * ENTRY_WORDS; k < s->count * ENTRY_WORDS; k++)
+        table[k] = 0;
+    s->count = total;
+}
+
+// Whether a piece fits an entry of the kind that is asked for. A large piece goes to the first border in it.
+static bool fits(uint64_t page, uint64_t size, struct entry e) {
+    if (e.size < size)
+        return false;
+    return e.kind != FREE_LARGE || round_up(page, e.address) - e.address <= e.size - size;
+}
+
+// The smallest entry of a kind that fits, and of several as small the lowest; the count where there is none.
+static size_t best(const struct space *s, const uint64_t *table, uint64_t kind, uint64_t size) {
+    size_t held = s->count;
+    uint64_t least = UINT64_MAX;
+    for (size_t i = 0; i < s->count; i++) {
+        struct entry e = entry_at(table, i);
+        if (e.kind != kind || e.size >= least || !fits(s->page, size, e))
+            continue;
+        held = i;
+        least = e.size;
+        if (e.size == size)
+            break;
+    }
+    return held;
+}
+
+// Adds an entry that has a byte.
+static size_t add(struct entry *with, size_t count, uint64_t address, uint64_t size, uint64_t kind) {
+    if (size > 0)
+        with[count++] = (struct entry){address, size, kind};
+    return count;
+}
+
+// A piece and what stays free behind it, in `room` bytes at b.
+static size_t add_piece(struct entry *with, size_t count, uint64_t b, uint64_t size, uint64_t live, uint64_t room) {
+    count = add(with, count, b, size, live);
+    return add(with, count, b + size, room - size, live + TO_FREE);
+}
+
+static struct placed refused(int refusal) {
+    return (struct placed){refusal, UINT64_MAX};
+}
+
+// These entries take the place of those from i up to j, and the piece is at b.
+static struct placed place(struct space *s, uint64_t *table, size_t words, size_t i, size_t j, const struct entry *with, size_t count,
+                           uint64_t b, uint64_t end) {
+    if (s->count - (j - i) + count > words / ENTRY_WORDS)
+        return refused(TABLE_FULL);
+    splice(s, table, i, j, with, count);
+    s->end = end;
+    return (struct placed){0, b};
+}
+
+struct placed space_allocate(struct space *s, uint64_t *table, size_t words, uint64_t type, uint64_t size) {
+    if (!is_sound(s, table, words))
+        return refused(NOT_SOUND);
+    if (type != METADATA && type != RAW)
+        return refused(UNKNOWN_TYPE);
+    if (size == 0)
+        return refused(NO_BYTES);
+    bool small = size < s->page;
+    uint64_t live = small ? type : LIVE_LARGE;
+    struct entry with[4];
+    size_t count = 0;
+    if (small) {
+        size_t i = best(s, table, live + TO_FREE, size);
+        if (i < s->count) {
+            struct entry e = entry_at(table, i);
+            count = add_piece(with, count, e.address, size, live, e.size);
+            return place(s, table, words, i, i + 1, with, count, e.address, s->end);
+        }
+    }
+    uint64_t room = small ? s->page : size;
+    size_t i = best(s, table, FREE_LARGE, room);
+    if (i < s->count) {
+        struct entry e = entry_at(table, i);
+        uint64_t b = round_up(s->page, e.address);
+        count = add(with, count, e.address, b - e.address, FREE_LARGE);
+        count = add_piece(with, count, b, size, live, room);
+        count = add(with, count, b + room, e.address + e.size - (b + room), FREE_LARGE);
+        return place(s, table, words, i, i + 1, with, count, b, s->end);
+    }
+    if (room > s->limit - s->end || round_up(s->page, room) > s->limit - s->end)
+        return refused(BEYOND_LIMIT);
+    uint64_t growth = round_up(s->page, room);
+    count = add_piece(with, count, s->end, size, live, growth);
+    return place(s, table, words, s->count, s->count, with, count, s->end, s->end + growth);
+}
+
+// Whether entry i is free of this kind, and in the page that starts at `start` where it is small.
+static bool merges(const struct space *s, const uint64_t *table, size_t i, uint64_t kind, uint64_t start) {
+    if (i >= s->count)
+        return false;
+    struct entry e = entry_at(table, i);
+    return e.kind == kind && (kind == FREE_LARGE || (e.address >= start && e.address - start < s->page));
+}
+
+// Entry i becomes free, and one with the free entries beside it, as a release demands.
+static void free_entry(struct space *s, uint64_t *table, size_t i) {
+    size_t from = i, to = i + 1;
+    struct entry e = entry_at(table, i);
+    e.kind += TO_FREE;
+    for (;;) {
+        uint64_t start = e.kind == FREE_LARGE ? 0 : e.address / s->page * s->page;
+        if (merges(s, table, to, e.kind, start))
+            e.size += entry_at(table, to++).size;
+        if (from > 0 && merges(s, table, from - 1, e.kind, start)) {
+            struct entry former = entry_at(table, --from);
+            e.address = former.address;
+            e.size += former.size;
+        }
+        if (e.kind == FREE_LARGE || e.size < s->page)
+            break;
+        e.kind = FREE_LARGE;
+    }
+    if (e.kind == FREE_LARGE && to == s->count) {
+        uint64_t cut = e.size / s->page * s->page;
+        e.size -= cut;
+        s->end -= cut;
+    }
+    splice(s, table, from, to, &e, e.size > 0 ? 1 : 0);
+}
+
+int space_release(struct space *s, uint64_t *table, size_t words, uint64_t address, uint64_t size) {
+    if (!is_sound(s, table, words))
+        return NOT_SOUND;
+    for (size_t i = 0; i < s->count; i++) {
+        struct entry e = entry_at(table, i);
+        if (e.address == address && e.size == size && is_live(e.kind)) {
+            free_entry(s, table, i);
+            return 0;
+        }
+    }
+    return NOT_LIVE;
+}
+
+// The workload, as in crates/bench/src/main.rt.
+
+static const uint64_t PAGE = 4096, LARGEST_SMALL = 1024, FIRST_DRAW = 88172645463325252u;
+
+struct run {
+    struct space space;
+    uint64_t draw, sum, accepted, entries;
+};
+
+static uint64_t drawn(uint64_t x) {
+    x ^= x << 13;
+    x ^= x >> 7;
+    return x ^ (x << 17);
+}
+
+static void note(struct run *run, uint64_t answer) {
+    run->accepted += answer < UINT64_MAX - 7;
+    run->sum = drawn(run->sum + answer);
+    run->sum = drawn(run->sum + run->space.end);
+    run->sum = drawn(run->sum + run->space.count);
+    run->entries += run->space.count;
+}
+
+static void allocate(struct run *run, uint64_t *table, size_t words) {
+    uint64_t draw = run->draw = drawn(run->draw), bits = draw >> 8;
+    uint64_t size = (draw & 7) == 0 ? PAGE + bits % (3 * PAGE) : 1 + bits % LARGEST_SMALL;
+    struct placed placed = space_allocate(&run->space, table, words, (draw & 8) == 0 ? METADATA : RAW, size);
+    note(run, placed.refusal ? UINT64_MAX - placed.refusal : placed.address);
+}
+
+// The first live entry from i on, of n; n where there is none.
+static size_t live_from(const uint64_t *table, size_t i, size_t n) {
+    while (i < n && (entry_at(table, i).kind < 1 || !is_live(entry_at(table, i).kind)))
+        i++;
+    return i;
+}
+
+static void release(struct run *run, uint64_t *table, size_t words) {
+    size_t n = words / ENTRY_WORDS;
+    if (n == 0)
+        return;
+    uint64_t draw = drawn(run->draw);
+    size_t i = live_from(table, (draw >> 8) % n, n);
+    if (i == n)
+        i = live_from(table, 0, n);
+    if (i == n)
+        return;
+    struct entry e = entry_at(table, i);
+    run->draw = draw;
+    int refusal = space_release(&run->space, table, words, e.address, e.size);
+    note(run, refusal ? UINT64_MAX - refusal : 0);
+}
+
+static struct run worked(uint64_t *table, size_t words, uint64_t entries, uint64_t turns) {
+    struct run run = {{PAGE, LARGEST_LIMIT, 0, 0}, FIRST_DRAW, 0, 0, 0};
+    for (uint64_t i = 0; i < entries; i++)
+        if (run.space.count < entries)
+            allocate(&run, table, words);
+    run.accepted = run.entries = 0;
+    for (uint64_t i = 0; i < turns; i++) {
+        release(&run, table, words);
+        allocate(&run, table, words);
+    }
+    return run;
+}
+
+static void say(const char *name, uint64_t n) {
+    char text[64];
+    size_t length = 0, at = sizeof text;
+    text[--at] = '\n';
+    do
+        text[--at] = '0' + n % 10;
+    while ((n /= 10) > 0);
+    while (name[length] != 0)
+        length++;
+    write(1, name, length);
+    write(1, text + at, sizeof text - at);
+}
+
+int main(void) {
+    static uint64_t table[MOST_WORDS];
+    char text[64];
+    uint64_t asked[2] = {0, 0};
+    long got = read(0, text, sizeof text);
+    for (long i = 0, which = 0; i < got; i++) {
+        if (text[i] == ' ')
+            which = 1;
+        else if (text[i] >= '0' && text[i] <= '9')
+            asked[which] = asked[which] * 10 + (text[i] - '0');
+    }
+    uint64_t entries = asked[0];
+    size_t words = entries < 960 ? (entries + entries / 16) * ENTRY_WORDS : MOST_WORDS;
+    struct run run = worked(table, words, entries, asked[1]);
+    say("checksum ", run.sum);
+    say("accepted ", run.accepted);
+    say("entries in all ", run.entries);
+    say("end ", run.space.end);
+    return 0;
+}

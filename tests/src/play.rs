@@ -1,0 +1,161 @@
+//! Scripts played through a program, and compared with the model.
+//!
+//!   Program      the command under test
+//!   Tally        what was compared
+//!   compare      the first difference between the program and the model over a stream of scripts, if there is one
+//!   shrink       the shortest script found that still shows a difference
+
+use crate::script::Machine;
+use std::io::{BufRead, BufReader, Write};
+use std::process::{Command, Stdio};
+use std::sync::mpsc;
+use std::thread;
+use std::time::{Duration, Instant};
+
+/// No answer for this long, and the program counts as one that answers no more.
+const PATIENCE: Duration = Duration::from_secs(30);
+
+/// Shrinking stops after this long with what it has.
+const SHRINK_TIME: Duration = Duration::from_secs(60);
+
+pub const NO_ANSWER: &str = "(no answer)";
+
+pub struct Program {
+    pub command: Vec<String>,
+}
+
+#[derive(Clone, Copy, Debug, Default)]
+pub struct Tally {
+    /// Lines that are a call on a space, a listing or a message, with a right count of words or not.
+    pub calls: u64,
+    /// Answers of any sort.
+    pub answers: u64,
+    /// Words of tables seen by `show words`.
+    pub words: u64,
+    /// Calls refused with each number.
+    pub refused: [u64; 13],
+}
+
+/// Line `line` of a stream is answered otherwise than it must be.
+#[derive(Clone, Debug, PartialEq, Eq)]
+pub struct Difference {
+    pub line: usize,
+    pub expected: String,
+    pub found: String,
+}
+
+impl Program {
+    /// The lines that the program prints for these lines, as far as they come.
+    fn answers(&self, lines: &[String]) -> Vec<String> {
+        let (name, args) = self.command.split_first().expect("a command");
+        let mut child = Command::new(name)
+            .args(args)
+            .stdin(Stdio::piped())
+            .stdout(Stdio::piped())
+            .spawn()
+            .unwrap_or_else(|why| panic!("cannot start {name}: {why}"));
+        let mut input = child.stdin.take().expect("a pipe");
+        let output = BufReader::new(child.stdout.take().expect("a pipe"));
+        let text = lines.join("\n") + "\n";
+        // A program that ends early closes its input: what could not be written then has no answer, and that is seen.
+        let feeder = thread::spawn(move || input.write_all(text.as_bytes()).is_ok());
+        let (send, receive) = mpsc::channel();
+        let reader = thread::spawn(move || {
+            for line in output.split(b'\n') {
+                let Ok(line) = line else { break };
+                if send.send(String::from_utf8_lossy(&line).into_owned()).is_err() {
+                    break;
+                }
+            }
+        });
+        let mut answers = Vec::new();
+        while let Ok(answer) = receive.recv_timeout(PATIENCE) {
+            answers.push(answer);
+        }
+        drop(receive);
+        // A program that has not ended by now is stuck; one that has ended is not hurt.
+        let _ = child.kill();
+        let _ = child.wait();
+        let _ = feeder.join();
+        let _ = reader.join();
+        answers
+    }
+}
+
+/// The number of the refusal that an answer says.
+fn refusal_in(answer: &str) -> Option<usize> {
+    let number = answer.strip_prefix("refused ")?;
+    number.split(';').next()?.parse().ok()
+}
+
+impl Tally {
+    fn count(&mut self, line: &str, answer: &str) {
+        let call = line.split_ascii_whitespace().next().unwrap_or("");
+        self.answers += 1;
+        if !["show", "state", "words"].contains(&call) {
+            self.calls += 1;
+        }
+        if let Some(number) = refusal_in(answer) {
+            self.refused[number] += 1;
+        }
+        if let Some(words) = answer.strip_prefix("words:") {
+            self.words += words.split_ascii_whitespace().count() as u64;
+        }
+    }
+}
+
+/// The first line that is answered otherwise than `expected` says; lines for which it says nothing have no answer.
+pub fn first_difference(program: &Program, lines: &[String], expected: &[Option<String>]) -> Option<Difference> {
+    let mut found = program.answers(lines).into_iter();
+    for (line, expected) in expected.iter().enumerate() {
+        let Some(expected) = expected else { continue };
+        let found = found.next().unwrap_or_else(|| NO_ANSWER.to_string());
+        if found != *expected {
+            return Some(Difference { line, expected: expected.clone(), found });
+        }
+    }
+    found.next().map(|found| Difference { line: lines.len(), expected: NO_ANSWER.to_string(), found })
+}
+
+/// The model's answers to a stream of lines.
+fn expected(lines: &[String]) -> Vec<Option<String>> {
+    let mut machine = Machine::default();
+    lines.iter().map(|line| machine.answer(line)).collect()
+}
+
+pub fn compare(program: &Program, lines: &[String], tally: &mut Tally) -> Option<Difference> {
+    let expected = expected(lines);
+    let difference = first_difference(program, lines, &expected);
+    let compared = difference.as_ref().map_or(lines.len(), |d| d.line);
+    for (line, answer) in lines.iter().zip(&expected).take(compared) {
+        if let Some(answer) = answer {
+            tally.count(line, answer);
+        }
+    }
+    difference
+}
+
+/// Lines are left out, many at a time and then one by one, as long as a difference stays.
+pub fn shrink(program: &Program, lines: &[String], difference: Difference) -> (Vec<String>, Difference) {
+    let began = Instant::now();
+    let mut best = lines[..lines.len().min(difference.line + 1)].to_vec();
+    let mut seen = difference;
+    let mut part = best.len().div_ceil(2);
+    while part > 0 {
+        let mut from = 0;
+        while from < best.len() && began.elapsed() < SHRINK_TIME {
+            let mut fewer = best.clone();
+            fewer.drain(from..(from + part).min(best.len()));
+            match compare(program, &fewer, &mut Tally::default()) {
+                Some(difference) => {
+                    fewer.truncate(difference.line + 1);
+                    best = fewer;
+                    seen = difference;
+                }
+                None => from += part,
+            }
+        }
+        part /= 2;
+    }
+    (best, seen)
+}

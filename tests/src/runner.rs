@@ -1,0 +1,136 @@
+//! Plays document 01's own calls, then sweeps, then random scripts through a program that speaks `filespace`'s language, and compares
+//! every answer and every word with the model.
+//!
+//!   runner [--seed N] [--calls N] COMMAND [WORDS..]
+//!
+//! The seed is printed; without one it is taken from the clock. On a difference the script is shrunk and printed with what was
+//! expected and what was found, and the exit status is 1.
+
+use difftest::document::{script_of, CLAIMS};
+use difftest::draw::Draw;
+use difftest::generate::script;
+use difftest::play::{compare, first_difference, shrink, Difference, Program, Tally};
+use difftest::sweep;
+use std::process::ExitCode;
+use std::time::{Instant, SystemTime, UNIX_EPOCH};
+
+/// Scripts that one run of the program plays, one after the other: each starts with an opening.
+const SCRIPTS_IN_A_RUN: usize = 100;
+
+struct Options {
+    seed: u64,
+    calls: u64,
+    program: Program,
+}
+
+fn usage() -> ! {
+    eprintln!("runner [--seed N] [--calls N] COMMAND [WORDS..]");
+    std::process::exit(2)
+}
+
+fn number_after(args: &mut Vec<String>) -> u64 {
+    args.drain(..2).nth(1).and_then(|word| word.parse().ok()).unwrap_or_else(|| usage())
+}
+
+fn options() -> Options {
+    let mut args: Vec<String> = std::env::args().skip(1).collect();
+    let clock = SystemTime::now().duration_since(UNIX_EPOCH).map_or(0, |d| d.as_nanos() as u64);
+    let (mut seed, mut calls) = (clock, 20_000);
+    while args.len() > 1 && args[0].starts_with("--") {
+        match args[0].as_str() {
+            "--seed" => seed = number_after(&mut args),
+            "--calls" => calls = number_after(&mut args),
+            _ => usage(),
+        }
+    }
+    if args.is_empty() {
+        usage();
+    }
+    Options { seed, calls, program: Program { command: args } }
+}
+
+fn report(lines: &[String], difference: &Difference) {
+    println!("A difference, shown by these {} lines:", lines.len());
+    println!();
+    for line in lines {
+        println!("    {}", line.trim_end());
+    }
+    println!();
+    println!("expected: {}", difference.expected);
+    println!("found:    {}", difference.found);
+}
+
+/// The document's claims hold of the program.
+fn claims_hold(program: &Program) -> bool {
+    for claim in CLAIMS {
+        let lines = script_of(claim);
+        let stated: Vec<_> = claim.calls.iter().map(|(_, answer)| Some(answer.to_string())).collect();
+        if let Some(difference) = first_difference(program, &lines, &stated) {
+            println!("Document 01: {}", claim.says);
+            report(&lines[..lines.len().min(difference.line + 1)], &difference);
+            return false;
+        }
+    }
+    println!("document 01: {} claims hold", CLAIMS.len());
+    true
+}
+
+/// The script that shows the difference, alone where that is enough, else with those that were played before it.
+fn shortest(program: &Program, scripts: &[Vec<String>], stream: &[String], difference: Difference) -> (Vec<String>, Difference) {
+    let mut behind = 0;
+    for one in scripts {
+        behind += one.len();
+        if difference.line < behind {
+            if let Some(alone) = compare(program, one, &mut Tally::default()) {
+                return shrink(program, one, alone);
+            }
+            break;
+        }
+    }
+    shrink(program, stream, difference)
+}
+
+/// A run of scripts agrees with the model; else the shortest script that shows a difference is printed.
+fn run_agrees(program: &Program, scripts: &[Vec<String>], tally: &mut Tally) -> bool {
+    let stream: Vec<String> = scripts.iter().flatten().cloned().collect();
+    let Some(difference) = compare(program, &stream, tally) else {
+        return true;
+    };
+    let (lines, difference) = shortest(program, scripts, &stream, difference);
+    report(&lines, &difference);
+    false
+}
+
+/// The sweeps and random scripts agree with the model, until enough calls were compared.
+fn scripts_agree(options: &Options, tally: &mut Tally) -> bool {
+    let mut draw = Draw::new(options.seed);
+    let mut agree = run_agrees(&options.program, &sweep::scripts(), tally);
+    while agree && tally.calls < options.calls {
+        let scripts: Vec<Vec<String>> = (0..SCRIPTS_IN_A_RUN).map(|_| script(&mut draw)).collect();
+        agree = run_agrees(&options.program, &scripts, tally);
+    }
+    agree
+}
+
+fn main() -> ExitCode {
+    let options = options();
+    println!("seed {}", options.seed);
+    let began = Instant::now();
+    let mut tally = Tally::default();
+    let agree = claims_hold(&options.program) && scripts_agree(&options, &mut tally);
+    println!(
+        "{} calls, {} answers and {} words compared in {:.1} s",
+        tally.calls,
+        tally.answers,
+        tally.words,
+        began.elapsed().as_secs_f64()
+    );
+    let refusals: Vec<String> = (1..tally.refused.len()).map(|i| format!("{i}: {}", tally.refused[i])).collect();
+    println!("refused with {}", refusals.join(", "));
+    if !agree {
+        println!("NOT the same (seed {})", options.seed);
+        return ExitCode::FAILURE;
+    }
+    println!("no difference");
+    ExitCode::SUCCESS
+}

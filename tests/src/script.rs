@@ -1,0 +1,261 @@
+//! The script language of the program `filespace`, answered by the model: one call to a line, one line for an answer.
+//!
+//!   Machine    the model with a count of lines; `answer` takes a line and gives what the program must print, if anything
+//!
+//! Not here: `table` and `map`, whose answers are pictures for a person.
+
+use crate::message::{self, Fields};
+use crate::model::{Model, Refusal, State, DEFAULT_LIMIT, DEFAULT_PAGE, ENTRY_WORDS};
+
+pub const LONGEST_LINE: usize = 100_000;
+pub const MOST_ENTRIES: u64 = 2_048;
+pub const MOST_WORDS: usize = 6_144;
+pub const MOST_ROOM: u64 = 4_096;
+const LENT_BYTE: u8 = 0xaa;
+
+#[derive(Clone, Debug, Default)]
+pub struct Machine {
+    pub model: Model,
+    lines: u64,
+}
+
+/// What is wrong with a line.
+type Wrong = &'static str;
+
+const NO_CALL: Wrong = "no call";
+const NOT_A_NUMBER: Wrong = "not a number";
+const NUMBER_TOO_LARGE: Wrong = "number too large";
+const WRONG_COUNT: Wrong = "wrong count of words";
+const TOO_LONG: Wrong = "too long";
+const TOO_MANY: Wrong = "too many";
+const NOT_HEX: Wrong = "not hex";
+
+fn number(word: &str) -> Result<u64, Wrong> {
+    if word.is_empty() || !word.bytes().all(|b| b.is_ascii_digit()) {
+        return Err(NOT_A_NUMBER);
+    }
+    word.parse().map_err(|_| NUMBER_TOO_LARGE)
+}
+
+fn numbers(words: &[&str]) -> Result<Vec<u64>, Wrong> {
+    words.iter().map(|w| number(w)).collect()
+}
+
+/// A number, or a word that stands for one: the first name for 1, the second for 2, and so on.
+fn code(word: &str, names: &[&str]) -> Result<u64, Wrong> {
+    match names.iter().position(|name| *name == word) {
+        Some(i) => Ok(i as u64 + 1),
+        None => number(word),
+    }
+}
+
+fn narrow<T: TryFrom<u64>>(number: u64) -> Result<T, Wrong> {
+    T::try_from(number).map_err(|_| NUMBER_TOO_LARGE)
+}
+
+fn exactly(count: usize, words: &[&str]) -> Result<(), Wrong> {
+    if words.len() == count { Ok(()) } else { Err(WRONG_COUNT) }
+}
+
+fn at_most(most: u64, number: u64) -> Result<usize, Wrong> {
+    if number <= most { Ok(number as usize) } else { Err(TOO_MANY) }
+}
+
+fn bytes_of_hex(hex: &str) -> Result<Vec<u8>, Wrong> {
+    if hex.len() % 2 != 0 || !hex.bytes().all(|b| b.is_ascii_hexdigit()) {
+        return Err(NOT_HEX);
+    }
+    Ok((0..hex.len()).step_by(2).map(|i| u8::from_str_radix(&hex[i..i + 2], 16).expect("two hex digits")).collect())
+}
+
+pub fn hex_of(bytes: &[u8]) -> String {
+    bytes.iter().map(|b| format!("{b:02x}")).collect()
+}
+
+pub fn joined(numbers: &[u64]) -> String {
+    numbers.iter().map(u64::to_string).collect::<Vec<_>>().join(" ")
+}
+
+/// A head, and behind it each word with a space in front.
+fn with_words(head: &str, words: &[String]) -> String {
+    let mut line = head.to_string();
+    for word in words {
+        line.push(' ');
+        line.push_str(word);
+    }
+    line
+}
+
+fn refused(why: Refusal) -> String {
+    format!("refused {why}")
+}
+
+impl Machine {
+    pub fn new(model: Model) -> Machine {
+        Machine { model, lines: 0 }
+    }
+
+    /// The answer to a line without its newline; None for a comment or a blank line.
+    pub fn answer(&mut self, line: &str) -> Option<String> {
+        self.lines += 1;
+        if line.len() > LONGEST_LINE {
+            return Some(self.wrong(TOO_LONG));
+        }
+        let line = line.split('#').next().unwrap_or("");
+        let words: Vec<&str> = line.split_ascii_whitespace().collect();
+        let (call, rest) = words.split_first()?;
+        Some(self.call(call, rest).unwrap_or_else(|what| self.wrong(what)))
+    }
+
+    fn wrong(&self, what: Wrong) -> String {
+        format!("line {}: {}", self.lines, what)
+    }
+
+    fn call(&mut self, call: &str, words: &[&str]) -> Result<String, Wrong> {
+        match call {
+            "open" => self.open(words),
+            "default" => self.open_default(words),
+            "allocate" => self.allocate(words),
+            "release" => self.named(2, words, |m, n| m.release(n[0], n[1])),
+            "extend" => self.named(3, words, |m, n| m.extend(n[0], n[1], n[2])),
+            "shorten" => self.named(3, words, |m, n| m.shorten(n[0], n[1], n[2])),
+            "list" => self.list(words),
+            "state" => self.set_state(words),
+            "words" => self.set_words(words),
+            "show" => self.show(words),
+            "read" => read(words),
+            "write" => write(words),
+            _ => Err(NO_CALL),
+        }
+    }
+
+    /// The end of every answer of a call on a space.
+    fn with_state(&self, said: String) -> String {
+        format!("{said}; end {}; {} entries", self.model.state.end, self.model.state.count)
+    }
+
+    fn done(&self, result: Result<(), Refusal>) -> String {
+        self.with_state(match result {
+            Ok(()) => "done".to_string(),
+            Err(why) => refused(why),
+        })
+    }
+
+    fn open_with(&mut self, page: u64, limit: u64, entries: u64) -> Result<String, Wrong> {
+        self.model.table = vec![0; at_most(MOST_ENTRIES, entries)? * ENTRY_WORDS];
+        let result = self.model.open(page, limit);
+        Ok(self.done(result))
+    }
+
+    fn open(&mut self, words: &[&str]) -> Result<String, Wrong> {
+        exactly(3, words)?;
+        let n = numbers(words)?;
+        self.open_with(n[0], n[1], n[2])
+    }
+
+    fn open_default(&mut self, words: &[&str]) -> Result<String, Wrong> {
+        exactly(1, words)?;
+        self.open_with(DEFAULT_PAGE, DEFAULT_LIMIT, number(words[0])?)
+    }
+
+    fn allocate(&mut self, words: &[&str]) -> Result<String, Wrong> {
+        exactly(2, words)?;
+        let kind = code(words[0], &["metadata", "raw"])?;
+        let size = number(words[1])?;
+        let said = match self.model.allocate(kind, size) {
+            Ok(at) => format!("at {at}"),
+            Err(why) => refused(why),
+        };
+        Ok(self.with_state(said))
+    }
+
+    /// A call that names a piece by numbers.
+    fn named(&mut self, count: usize, words: &[&str], call: fn(&mut Model, &[u64]) -> Result<(), Refusal>) -> Result<String, Wrong> {
+        exactly(count, words)?;
+        let result = call(&mut self.model, &numbers(words)?);
+        Ok(self.done(result))
+    }
+
+    fn list(&mut self, words: &[&str]) -> Result<String, Wrong> {
+        exactly(2, words)?;
+        let manager = code(words[0], &["metadata", "raw", "large"])?;
+        let room = at_most(MOST_ROOM, number(words[1])?)?;
+        Ok(match self.model.list(manager, room) {
+            Ok(sections) => {
+                let pairs: Vec<String> = sections.iter().map(|(a, s)| format!("{a}+{s}")).collect();
+                with_words(&format!("{} sections:", pairs.len()), &pairs)
+            }
+            Err(why) => refused(why),
+        })
+    }
+
+    fn set_state(&mut self, words: &[&str]) -> Result<String, Wrong> {
+        exactly(4, words)?;
+        let n = numbers(words)?;
+        self.model.state = State { page: n[0], limit: n[1], end: n[2], count: n[3] };
+        Ok("set".to_string())
+    }
+
+    fn set_words(&mut self, words: &[&str]) -> Result<String, Wrong> {
+        if words.len() > MOST_WORDS {
+            return Err(TOO_MANY);
+        }
+        self.model.table = numbers(words)?;
+        Ok("set".to_string())
+    }
+
+    fn show(&mut self, words: &[&str]) -> Result<String, Wrong> {
+        if words != ["words"] {
+            return Err(NO_CALL);
+        }
+        let words: Vec<String> = self.model.table.iter().map(u64::to_string).collect();
+        Ok(with_words("words:", &words))
+    }
+}
+
+fn read(words: &[&str]) -> Result<String, Wrong> {
+    let lent = match words {
+        [] => Vec::new(),
+        [hex] => bytes_of_hex(hex)?,
+        _ => return Err(WRONG_COUNT),
+    };
+    let said = match message::read(&lent) {
+        Ok(f) => format!(
+            "strategy {}; persist {}; threshold {}; page {}; page-end {}; eoa {}; small {}; large {}",
+            f.strategy,
+            f.persist,
+            f.threshold,
+            f.page,
+            f.page_end,
+            f.eoa,
+            joined(&f.small),
+            joined(&f.large)
+        ),
+        Err(why) => refused(why),
+    };
+    Ok(format!("{said}; {} bytes follow", message::rest(&lent)))
+}
+
+fn six(numbers: &[u64]) -> [u64; 6] {
+    numbers.try_into().expect("six numbers")
+}
+
+fn write(words: &[&str]) -> Result<String, Wrong> {
+    exactly(19, words)?;
+    let n = numbers(words)?;
+    let fields = Fields {
+        strategy: narrow(n[0])?,
+        persist: narrow(n[1])?,
+        threshold: n[2],
+        page: n[3],
+        page_end: narrow(n[4])?,
+        eoa: n[5],
+        small: six(&n[6..12]),
+        large: six(&n[12..18]),
+    };
+    let mut lent = vec![LENT_BYTE; at_most(MOST_ROOM, n[18])?];
+    Ok(match message::write(&fields, &mut lent) {
+        Ok(()) => with_words("wrote", &[hex_of(&lent)]),
+        Err(why) => refused(why),
+    })
+}

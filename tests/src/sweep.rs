@@ -1,0 +1,118 @@
+//! Scripts that change a good table, state or message in each place in turn, and lines at the edges of the script language.
+//!
+//!   scripts    all of them; they are the same in every run
+
+use crate::message::{bytes_of, Fields, LENGTH, UNDEFINED};
+use crate::script::{hex_of, joined, LONGEST_LINE, MOST_WORDS};
+
+/// Document 01's state and table after step 5.
+const STATE: [u64; 4] = [512, 5_120, 2_560, 8];
+const TABLE: [u64; 36] = [
+    0, 96, 1, 96, 416, 1, 512, 100, 2, 612, 412, 5, 1024, 700, 3, 1724, 324, 6, 2048, 10, 1, 2058, 502, 4, 0, 0, 0, 0, 0, 0, 0, 0, 0, 0, 0, 0,
+];
+
+pub fn scripts() -> Vec<Vec<String>> {
+    vec![each_word(), each_number_of_the_state(), each_length_of_a_table(), each_byte_of_a_message(), each_length_of_a_message(), edges_of_lines()]
+}
+
+fn opening() -> String {
+    "open 512 5120 12".to_string()
+}
+
+fn state_line(state: &[u64]) -> String {
+    format!("state {}", joined(state))
+}
+
+fn words_line(words: &[u64]) -> String {
+    format!("words {}", joined(words))
+}
+
+/// What a word is changed to.
+fn changes(word: u64) -> [u64; 9] {
+    [word.wrapping_sub(1), word.wrapping_add(1), 0, 1, 3, 6, 7, word.wrapping_add(512), word | 1 << 63]
+}
+
+/// Calls that a damaged space gets: one that writes nothing, and one that would.
+fn probes() -> [String; 3] {
+    ["list large 100".to_string(), "release 96 416".to_string(), "show words".to_string()]
+}
+
+fn each_word() -> Vec<String> {
+    let mut lines = vec![opening()];
+    for i in 0..TABLE.len() {
+        for change in changes(TABLE[i]) {
+            let mut table = TABLE;
+            table[i] = change;
+            lines.extend([state_line(&STATE), words_line(&table)]);
+            lines.extend(probes());
+        }
+    }
+    lines
+}
+
+fn each_number_of_the_state() -> Vec<String> {
+    let mut lines = vec![opening()];
+    for i in 0..STATE.len() {
+        for change in changes(STATE[i]) {
+            let mut state = STATE;
+            state[i] = change;
+            lines.extend([words_line(&TABLE), state_line(&state)]);
+            lines.extend(probes());
+        }
+    }
+    lines
+}
+
+/// The table cut short or with zero words behind it: sound from 24 words on, at multiples of 3.
+fn each_length_of_a_table() -> Vec<String> {
+    let mut lines = vec![opening()];
+    for length in (0..48).chain([3_069, 3_070, 3_072, 3_073, 3_075, MOST_WORDS]) {
+        let mut table = TABLE.to_vec();
+        table.resize(length, 0);
+        lines.extend([state_line(&STATE), words_line(&table)]);
+        lines.extend(probes());
+    }
+    lines
+}
+
+/// Good messages, one with free addresses and one with undefined ones.
+fn messages() -> [Vec<u8>; 2] {
+    let small = [4_096, UNDEFINED, 635, 0, 1, 49_152];
+    let persistent = Fields { strategy: 1, persist: 1, threshold: 1, page: 4_096, page_end: 7, eoa: 40_960, small, large: small };
+    let plain = Fields { persist: 0, small: [UNDEFINED; 6], large: [UNDEFINED; 6], ..persistent.clone() };
+    [bytes_of(&persistent), bytes_of(&plain)]
+}
+
+fn each_byte_of_a_message() -> Vec<String> {
+    let mut lines = vec![opening()];
+    for message in messages() {
+        for i in 0..LENGTH {
+            for change in [message[i] ^ 1, message[i] ^ 0x80, !message[i]] {
+                let mut damaged = message.clone();
+                damaged[i] = change;
+                lines.push(format!("read {}", hex_of(&damaged)));
+            }
+        }
+    }
+    lines
+}
+
+fn each_length_of_a_message() -> Vec<String> {
+    let mut lines = vec![opening()];
+    for mut message in messages() {
+        message.resize(LENGTH + 10, 0xaa);
+        lines.extend((0..=message.len()).map(|length| format!("read {}", hex_of(&message[..length]))));
+    }
+    lines
+}
+
+/// The longest line and one byte more; the most words and one more. A line that is refused changes nothing.
+fn edges_of_lines() -> Vec<String> {
+    let call = "allocate raw 1";
+    let padded = |length: usize| call.to_string() + &" ".repeat(length - call.len());
+    let zeros = |count: usize| words_line(&vec![0; count]);
+    let look = || "show words".to_string();
+    let mut lines = vec![opening(), padded(LONGEST_LINE), look(), padded(LONGEST_LINE + 1), look(), padded(3 * LONGEST_LINE), look()];
+    lines.extend([zeros(MOST_WORDS), zeros(MOST_WORDS + 1), look(), "words".to_string(), look(), opening()]);
+    lines
+}
