@@ -159,9 +159,6 @@ module _ (P : ℕ) (pos : 0 < P) where
   pub left-pos : (a : ℕ) → 0 < left P a
   left-pos a = omega (arith, left-down a, down-lt a)
 
-  pub left-le : (a : ℕ) → left P a ≤ P
-  left-le a = omega (arith, left-down a, down-le a)
-
   pub left-of : {a : ℕ} → Border P a → left P a ≡ P
   left-of {a} h = omega (arith, left-down a, down-of h)
 

@@ -179,10 +179,6 @@ pub laid-none : (w : List ℕ) (i : ℕ) → laid w i [] ≡ w
 unfolding laid words
 laid-none w i = rw add-zero (take-append-drop (i * entryWords) w)
 
-pub length-laid : (w : List ℕ) (i : ℕ) (es : List Piece) → (i + length es) * entryWords ≤ length w → length (laid w i es) ≡ length w
-unfolding laid
-length-laid w i es fits = simp (length-append, length-words, length-take, length-drop) (omega arith)
-
 laid-front : (w : List ℕ) (i : ℕ) (es : List Piece) → (i + length es) * entryWords ≤ length w
     → length (take (i * entryWords) w ++ words es) ≡ (i + length es) * entryWords
 laid-front w i es fits = simp (length-append, length-words, length-take) (omega arith)

@@ -113,10 +113,6 @@ module _ (P : ℕ) (pos : 0 < P) where
 
   -- ---- a free entry from a to a + n before the rest: the gap that it begins
 
-  free-under : {s : Status} {a n : ℕ} {c : Class} {es : List Piece} → View c → es ≡ [] → Entry P s a n (Free c) es → n < P
-  free-under (small h) q y = y .small h .under
-  free-under large q y = y .cut q refl
-
   -- an entry of less than a page that ends at a border starts at none
   off-before : {a n : ℕ} → Border P (a + n) → 0 < n → n < P → ¬ Border P a
   off-before b p u h = not-border P pos h (omega arith) (omega arith) b

@@ -147,10 +147,6 @@ true-beside P s a t h =
 
 -- ---- the last entry
 
-none-true : (es : List Piece) → noneb es ≡ true → es ≡ []
-none-true [] h = refl
-none-true (x ∷ es) h = absurd (not-both h refl)
-
 cut-true : (P : ℕ) (t : Status) (z : ℕ) (es : List Piece) → cutb P t z (noneb es) ≡ true → es ≡ [] → t ≡ Free Large → z < P
 unfolding cutb
 cut-true P t z es h e f = ltb-true z P (rw (e, f) at h)
