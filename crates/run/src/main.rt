@@ -2,7 +2,9 @@
 // 12 exchanged. Every answer and every E is compared with document 01's, and so are all words after steps 5 and 12.
 use show::answer;
 use show::answer::Answer;
+use show::case;
 use show::claim::Tally;
+use show::claim::say_verdict;
 use show::scene;
 use show::scene::Call;
 use show::scene::Scene;
@@ -48,17 +50,40 @@ fn say_answer_and_end(a: Answer, end: u64) {
     say_number(end);
 }
 
-// The line of a step, and whether it is document 01's.
-fn judge(t: Tally, expected: Answer, end: u64, found: Answer, found_end: u64) -> Tally {
+fn say_step(number: u64, call: Call) {
+    say(b"step ");
+    say_number(number);
+    say(b": ");
+    scene::say_call(call);
+    say(b": ");
+}
+
+// The line of a step: its answer and E, and whether they are document 01's.
+fn judge(
+    t: Tally,
+    number: u64,
+    call: Call,
+    expected: Answer,
+    end: u64,
+    found: Answer,
+    found_end: u64,
+) -> Tally {
     if answer::same_answer(expected, found) {
         if end == found_end {
-            say_line(b" (as document 01 has it)");
+            say_verdict(true);
+            say_step(number, call);
+            say_answer_and_end(found, found_end);
+            say(b"\n");
             return t.held();
         }
     }
-    say(b"\nFAIL that step: expected ");
+    say_verdict(false);
+    say_step(number, call);
+    say(b"expected ");
     say_answer_and_end(expected, end);
-    say_line(b"");
+    say(b", found ");
+    say_answer_and_end(found, found_end);
+    say(b"\n");
     t.failed()
 }
 
@@ -69,16 +94,18 @@ fn step(run: Run, number: u64, call: Call, expected: Answer, end: u64) -> Run {
     let found = asked.answer;
     let left = asked.scene;
     let state = left.space;
-    say(b"step ");
-    say_number(number);
-    say(b": ");
-    scene::say_call(call);
-    say(b": ");
-    say_answer_and_end(found, state.end);
     let old = run.tally;
-    let tally = judge(old, expected, end, found, state.end);
+    let tally = judge(old, number, call, expected, end, found, state.end);
     scene::say_entries(left);
     Run { scene: left, tally }
+}
+
+// That the call is refused with this number, and changes no word and nothing of the state.
+fn refuses(run: Run, claim: &[u8], call: Call, number: u64) -> Run {
+    let scene = run.scene;
+    let old = run.tally;
+    let tally = case::refuses(old, claim, scene, call, number);
+    Run { scene, tally }
 }
 
 // Whether all words are these.
@@ -123,6 +150,8 @@ fn to_step_ten(run: Run) -> Run {
         Answer::Refused(9),
         2560,
     );
+    let claim = b"step 9 is refused and leaves every word and the state as they came";
+    let run = refuses(run, claim, Call::Shorten(1024, 1024, 600), 9);
     step(run, 10, Call::Shorten(1024, 1024, 300), Answer::Done, 2560)
 }
 

@@ -13,20 +13,29 @@ pub struct Tally {
 }
 
 // One more, up to the largest number.
-fn one_more(n: u64) -> u64 {
+pub fn one_more(n: u64) -> u64 {
     if n < 18446744073709551615 {
         return n + 1;
     }
     n
 }
 
+// How the line of a claim begins.
+pub fn say_verdict(held: bool) {
+    if held {
+        say(b"ok   ");
+        return;
+    }
+    say(b"FAIL ");
+}
+
 pub fn say_ok(claim: &[u8]) {
-    say(b"ok   ");
+    say_verdict(true);
     say_line(claim);
 }
 
 pub fn say_fail(claim: &[u8]) {
-    say(b"FAIL ");
+    say_verdict(false);
     say(claim);
     say(b": expected ");
 }
@@ -53,6 +62,13 @@ impl Tally {
             claims: one_more(self.claims),
             failures: one_more(self.failures),
         }
+    }
+
+    pub fn count(self, held: bool) -> Tally {
+        if held {
+            return self.held();
+        }
+        self.failed()
     }
 
     pub fn number(self, claim: &[u8], expected: u64, found: u64) -> Tally {

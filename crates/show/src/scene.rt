@@ -139,7 +139,7 @@ fn tell(space: Space, table: &mut [u64], call: Call) -> Told {
 }
 
 // So many words, or all there are.
-fn part(len: usize) -> usize
+pub fn part(len: usize) -> usize
     ensures { λ r. ⌜ r ≤ 96 ⌝ }
 {
     if WORDS < len {

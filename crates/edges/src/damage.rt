@@ -1,0 +1,305 @@
+// Tables damaged one word at a time: each word of document 01's table after step 5, and each number of its state, is replaced by other values.
+// Each call must then refuse 2, but for the damages that leave a sound table, which are known in advance.
+use crate::listing;
+use crate::scenes;
+use show::answer;
+use show::answer::Answer;
+use show::claim;
+use show::claim::Tally;
+use show::claim::say_verdict;
+use show::scene;
+use show::scene::Call;
+use show::scene::Scene;
+use show::text::say;
+use show::text::say_line;
+use show::text::say_number;
+use show::words;
+
+const TABLE_WORDS: usize = 36;
+
+const ENTRIES_WORDS: usize = 24;
+
+const OTHERS: usize = 13;
+
+const LARGEST: u64 = 18446744073709551615;
+
+// How many damages of a word are refused 2, how many leave a sound table, and how many are neither or other than known.
+struct Counts {
+    refused: u64,
+    sound: u64,
+    wrong: u64,
+}
+
+fn same_scene(a: Scene, other: Scene) -> bool {
+    let old = a.words;
+    let new = other.words;
+    if !words::same_words(&old, &new) {
+        return false;
+    }
+    let given = a.space;
+    let returned = other.space;
+    scene::same_state(given, returned)
+}
+
+// Whether a call is refused with this number, and leaves every word and the state.
+fn is_refused(before: Scene, call: Call, number: u64) -> bool {
+    let asked = scene::ask(before, call);
+    let found = asked.answer;
+    if !answer::same_answer(Answer::Refused(number), found) {
+        return false;
+    }
+    let left = asked.scene;
+    same_scene(before, left)
+}
+
+// Whether every call is refused, each with its number. The arguments are such that a sound table refuses them too, each later in its order.
+fn all_refuse(s: Scene, allocate: u64, release: u64, change: u64, list: u64) -> bool {
+    if !is_refused(s, Call::Allocate(9, 1), allocate) {
+        return false;
+    }
+    if !is_refused(s, Call::Release(0, 1), release) {
+        return false;
+    }
+    if !is_refused(s, Call::Extend(0, 96, 0), change) {
+        return false;
+    }
+    if !is_refused(s, Call::Shorten(0, 96, 0), change) {
+        return false;
+    }
+    listing::is_refused(s, 9, list)
+}
+
+fn is_broken(s: Scene) -> bool {
+    all_refuse(s, 2, 2, 2, 2)
+}
+
+fn is_sound(s: Scene) -> bool {
+    all_refuse(s, 3, 7, 4, 3)
+}
+
+// The damages that leave a sound table: a live piece of page 0 is free, beside another that is live; the free rest of a small page is live.
+fn known_sound(i: usize, value: u64) -> bool {
+    match i {
+        2 => value == 4,
+        5 => value == 4,
+        11 => value == 2,
+        23 => value == 1,
+        _ => false,
+    }
+}
+
+// The values that a word is replaced by: all kinds with 0 and 7, its neighbours, a page more, and two very large ones.
+fn other_value(old: u64, k: usize) -> u64 {
+    if k < 8 {
+        return k as u64;
+    }
+    match k {
+        8 => std::num::wrapping_add_u64(old, 1),
+        9 => std::num::wrapping_sub_u64(old, 1),
+        10 => std::num::wrapping_add_u64(old, 512),
+        11 => 9223372036854775808,
+        _ => LARGEST,
+    }
+}
+
+fn word_at(s: Scene, i: usize) -> u64 {
+    let words = s.words;
+    if i < scene::WORDS {
+        return words[i];
+    }
+    0
+}
+
+fn with_word(s: Scene, i: usize, value: u64) -> Scene {
+    let mut words = s.words;
+    let space = s.space;
+    if i < scene::WORDS {
+        words[i] = value;
+    }
+    Scene {
+        space,
+        words,
+        len: s.len,
+    }
+}
+
+fn more_refused(n: Counts) -> Counts {
+    Counts {
+        refused: claim::one_more(n.refused),
+        sound: n.sound,
+        wrong: n.wrong,
+    }
+}
+
+fn more_sound(n: Counts) -> Counts {
+    Counts {
+        refused: n.refused,
+        sound: claim::one_more(n.sound),
+        wrong: n.wrong,
+    }
+}
+
+fn more_wrong(n: Counts) -> Counts {
+    Counts {
+        refused: n.refused,
+        sound: n.sound,
+        wrong: claim::one_more(n.wrong),
+    }
+}
+
+// One damage. The word's own value is none.
+fn try_value(n: Counts, s: Scene, i: usize, value: u64) -> Counts {
+    if value == word_at(s, i) {
+        return n;
+    }
+    let damaged = with_word(s, i, value);
+    if known_sound(i, value) {
+        if is_sound(damaged) {
+            return more_sound(n);
+        }
+        return more_wrong(n);
+    }
+    if is_broken(damaged) {
+        return more_refused(n);
+    }
+    more_wrong(n)
+}
+
+fn try_values(s: Scene, i: usize) -> Counts {
+    let mut n = Counts {
+        refused: 0,
+        sound: 0,
+        wrong: 0,
+    };
+    let old = word_at(s, i);
+    let mut k: usize = 0;
+    while k < OTHERS {
+        n = try_value(n, s, i, other_value(old, k));
+        k = k + 1;
+    }
+    n
+}
+
+fn say_place(i: usize) {
+    say(b"word ");
+    say_number(i as u64);
+    if ENTRIES_WORDS <= i {
+        say(b", behind the entries: ");
+        return;
+    }
+    match i % 3 {
+        0 => say(b", the address of entry "),
+        1 => say(b", the size of entry "),
+        _ => say(b", the kind of entry "),
+    }
+    say_number((i / 3) as u64);
+    say(b": ");
+}
+
+// The line of a damaged word.
+fn damage_word(t: Tally, s: Scene, i: usize) -> Tally {
+    let n = try_values(s, i);
+    say_verdict(n.wrong == 0);
+    say_place(i);
+    say_number(n.refused);
+    say(b" other values refused 2, ");
+    say_number(n.sound);
+    say(b" sound by document 01, ");
+    say_number(n.wrong);
+    say_line(b" answered otherwise");
+    t.count(n.wrong == 0)
+}
+
+fn words_in_turn(t: Tally, s: Scene) -> Tally {
+    let mut tally = t;
+    let mut i: usize = 0;
+    while i < TABLE_WORDS {
+        tally = damage_word(tally, s, i);
+        i = i + 1;
+    }
+    tally
+}
+
+// That every call refuses 2.
+fn breaks(t: Tally, claim: &[u8], s: Scene) -> Tally {
+    if is_broken(s) {
+        claim::say_ok(claim);
+        return t.held();
+    }
+    claim::say_fail(claim);
+    say_line(b"every call to refuse 2, found a call that does not");
+    t.failed()
+}
+
+// That no call refuses 2.
+fn stays_sound(t: Tally, claim: &[u8], s: Scene) -> Tally {
+    if is_sound(s) {
+        claim::say_ok(claim);
+        return t.held();
+    }
+    claim::say_fail(claim);
+    say_line(b"each call to refuse what comes after 2, found one that does not");
+    t.failed()
+}
+
+fn pages_and_limits(t: Tally) -> Tally {
+    let t = stays_sound(t, b"the state after step 5 is sound", scenes::five());
+    let s = scenes::with_state(511, 5120, 2560, 8);
+    let t = breaks(t, b"P = 511 is refused 2 by every call", s);
+    let s = scenes::with_state(513, 5120, 2560, 8);
+    let t = breaks(t, b"P = 513 is refused 2 by every call", s);
+    let s = scenes::with_state(640, 5120, 2560, 8);
+    let t = breaks(
+        t,
+        b"P = 640, which divides E, is refused 2 by every call",
+        s,
+    );
+    let s = scenes::with_state(0, 5120, 2560, 8);
+    let t = breaks(t, b"P = 0 is refused 2 by every call", s);
+    let s = scenes::with_state(512, 2559, 2560, 8);
+    let t = breaks(t, b"M = 2559, below E, is refused 2 by every call", s);
+    let s = scenes::with_state(512, 2560, 2560, 8);
+    let t = stays_sound(t, b"M = 2560, which is E, is sound", s);
+    let s = scenes::with_state(512, 5121, 2560, 8);
+    let t = stays_sound(t, b"M = 5121 is sound", s);
+    let s = scenes::with_state(512, 4611686018427387904, 2560, 8);
+    let t = stays_sound(t, b"M = 2^62 is sound", s);
+    let s = scenes::with_state(512, 4611686018427387905, 2560, 8);
+    breaks(t, b"M = 2^62 + 1 is refused 2 by every call", s)
+}
+
+fn ends_and_counts(t: Tally) -> Tally {
+    let s = scenes::with_state(512, 5120, 2559, 8);
+    let t = breaks(t, b"E = 2559 is refused 2 by every call", s);
+    let s = scenes::with_state(512, 5120, 2048, 8);
+    let t = breaks(t, b"E a page less is refused 2 by every call", s);
+    let s = scenes::with_state(512, 5120, 3072, 8);
+    let t = breaks(t, b"E a page more is refused 2 by every call", s);
+    let s = scenes::with_state(512, 5120, 0, 8);
+    let t = breaks(t, b"E = 0 is refused 2 by every call", s);
+    let s = scenes::with_state(512, 5120, 2560, 7);
+    let t = breaks(t, b"n = 7 is refused 2 by every call", s);
+    let s = scenes::with_state(512, 5120, 2560, 9);
+    let t = breaks(t, b"n = 9 is refused 2 by every call", s);
+    let s = scenes::with_state(512, 5120, 2560, 13);
+    let t = breaks(t, b"n = C + 1 is refused 2 by every call", s);
+    let s = scenes::with_state(512, 5120, 2560, LARGEST);
+    let t = breaks(t, b"n = 2^64 - 1 is refused 2 by every call", s);
+    let s = scenes::with_state(512, 5120, 0, 0);
+    let t = breaks(
+        t,
+        b"E = 0 and n = 0 over these words is refused 2 by every call",
+        s,
+    );
+    let s = scenes::opened(511, 5120, 36);
+    breaks(
+        t,
+        b"the state of a refused opening is refused 2 by every call",
+        s,
+    )
+}
+
+pub fn all(t: Tally) -> Tally {
+    let t = ends_and_counts(pages_and_limits(t));
+    words_in_turn(t, scenes::five())
+}

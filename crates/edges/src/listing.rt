@@ -1,0 +1,204 @@
+// Listing: refusals 2, 3, 10, and what a list slice holds after each call. Its six words are all 7 before.
+ghost use Prim.Native.Nat.{_≤_};
+use crate::scenes;
+use show::answer;
+use show::answer::Answer;
+use show::claim;
+use show::claim::Tally;
+use show::scene;
+use show::scene::Call;
+use show::scene::Scene;
+use show::text::say;
+use show::text::say_line;
+use show::text::say_number;
+use show::words;
+use space::Space;
+use space::place::METADATA;
+use space::place::RAW;
+
+const LIST_WORDS: usize = 6;
+
+const LARGEST: u64 = 18446744073709551615;
+
+struct Lists {
+    answer: Answer,
+    space: Space,
+    out: [u64; 6],
+}
+
+fn part(len: usize) -> usize
+    ensures { λ r. ⌜ r ≤ 6 ⌝ }
+{
+    if LIST_WORDS < len {
+        return LIST_WORDS;
+    }
+    len
+}
+
+// A listing into the first `len` of six words.
+fn list(s: Scene, manager: u64, len: usize) -> Lists {
+    let table = s.words;
+    let lent = scene::part(s.len);
+    let mut out = [7u64; 6];
+    let most = part(len);
+    let state = s.space;
+    let done = state.list(&table[..lent], manager, &mut out[..most]);
+    let said = done.answer;
+    let space = done.space;
+    Lists {
+        answer: answer::of_list(said),
+        space,
+        out,
+    }
+}
+
+// Whether the answer is this one, the list slice has these words, and the state is as it came.
+fn holds(s: Scene, found: Lists, expected: Answer, words: [u64; 6]) -> bool {
+    let said = found.answer;
+    let out = found.out;
+    let given = s.space;
+    let returned = found.space;
+    if !answer::same_answer(expected, said) {
+        return false;
+    }
+    if !words::same_words(&words, &out) {
+        return false;
+    }
+    scene::same_state(given, returned)
+}
+
+pub fn is_refused(s: Scene, manager: u64, number: u64) -> bool {
+    let found = list(s, manager, LIST_WORDS);
+    holds(s, found, Answer::Refused(number), [7, 7, 7, 7, 7, 7])
+}
+
+fn say_out(out: [u64; 6]) {
+    say(b", with the words ");
+    say_number(out[0]);
+    say(b" ");
+    say_number(out[1]);
+    say(b" ");
+    say_number(out[2]);
+    say(b" ");
+    say_number(out[3]);
+    say(b" ..");
+}
+
+fn judge(
+    t: Tally,
+    claim: &[u8],
+    s: Scene,
+    found: Lists,
+    expected: Answer,
+    words: [u64; 6],
+) -> Tally {
+    if holds(s, found, expected, words) {
+        claim::say_ok(claim);
+        return t.held();
+    }
+    claim::say_fail(claim);
+    answer::say_answer(expected);
+    say_out(words);
+    say(b", found ");
+    let said = found.answer;
+    let out = found.out;
+    answer::say_answer(said);
+    say_out(out);
+    say_line(b"");
+    t.failed()
+}
+
+// That one section is listed, and the four words behind it stay.
+fn lists_one(
+    t: Tally,
+    claim: &[u8],
+    s: Scene,
+    manager: u64,
+    len: usize,
+    address: u64,
+    size: u64,
+) -> Tally {
+    let found = list(s, manager, len);
+    judge(
+        t,
+        claim,
+        s,
+        found,
+        Answer::Sections(1),
+        [address, size, 7, 7, 7, 7],
+    )
+}
+
+// That the listing is refused with this number, and no word is written.
+fn refuses(t: Tally, claim: &[u8], s: Scene, manager: u64, len: usize, number: u64) -> Tally {
+    let found = list(s, manager, len);
+    judge(
+        t,
+        claim,
+        s,
+        found,
+        Answer::Refused(number),
+        [7, 7, 7, 7, 7, 7],
+    )
+}
+
+// Two free sections of raw data: after step 5 a second page of raw data is begun.
+fn two_raw() -> Scene {
+    scene::after(scenes::five(), Call::Allocate(RAW, 500))
+}
+
+fn managers(t: Tally) -> Tally {
+    let s = scenes::five();
+    let t = refuses(t, b"listing manager 0 is refused 3", s, 0, 6, 3);
+    let t = lists_one(t, b"manager 1 lists (2058, 502)", s, METADATA, 6, 2058, 502);
+    let t = lists_one(t, b"manager 2 lists (612, 412)", s, RAW, 6, 612, 412);
+    let t = lists_one(t, b"manager 3 lists (1724, 324)", s, 3, 6, 1724, 324);
+    let t = refuses(t, b"listing manager 4 is refused 3", s, 4, 6, 3);
+    refuses(
+        t,
+        b"listing manager 2^64 - 1 is refused 3",
+        s,
+        LARGEST,
+        6,
+        3,
+    )
+}
+
+fn lengths(t: Tally) -> Tally {
+    let s = scenes::five();
+    let t = refuses(t, b"no word for one section is refused 10", s, RAW, 0, 10);
+    let t = refuses(t, b"1 word for one section is refused 10", s, RAW, 1, 10);
+    let t = lists_one(t, b"2 words hold one section", s, RAW, 2, 612, 412);
+    let t = refuses(t, b"an unknown manager is 3 before 10", s, 4, 0, 3);
+    let two = two_raw();
+    let t = refuses(
+        t,
+        b"3 words for two sections are refused 10",
+        two,
+        RAW,
+        3,
+        10,
+    );
+    let found = list(two, RAW, 4);
+    let words = [612, 412, 3060, 12, 7, 7];
+    let claim = b"4 words hold two sections, in address order";
+    let t = judge(t, claim, two, found, Answer::Sections(2), words);
+    let none = scenes::empty();
+    let found = list(none, RAW, 0);
+    let words = [7, 7, 7, 7, 7, 7];
+    let claim = b"no word is enough for no section";
+    judge(t, claim, none, found, Answer::Sections(0), words)
+}
+
+pub fn all(t: Tally) -> Tally {
+    let closed = scenes::opened(511, 5120, 36);
+    let t = refuses(
+        t,
+        b"listing the state of a refused opening is refused 2",
+        closed,
+        RAW,
+        6,
+        2,
+    );
+    lengths(managers(t))
+}

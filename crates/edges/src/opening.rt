@@ -1,0 +1,166 @@
+// Opening: refusal 1, from both sides of each range. The table's words are all 9 before.
+ghost use mathlib.Core.Path.{_≡_};
+ghost use Prim.Native.Nat.{_≤_};
+ghost use lib.ListN.{length};
+use show::answer;
+use show::answer::Answer;
+use show::claim;
+use show::claim::Tally;
+use show::scene;
+use show::text::say_line;
+use space::Space;
+
+const LONG_WORDS: usize = 3078;
+
+const LARGEST_LIMIT: u64 = 4611686018427387904;
+
+const LARGEST: u64 = 18446744073709551615;
+
+struct LongOpened {
+    words: [u64; 3078],
+    space: Space,
+    answer: Answer,
+}
+
+fn nines() -> [u64; 3078]
+    ensures { λ r. ⌜ 3078 ≡ length r ⌝ }
+{
+    [9u64; 3078]
+}
+
+fn part(len: usize) -> usize
+    ensures { λ r. ⌜ r ≤ 3078 ⌝ }
+{
+    if LONG_WORDS < len {
+        return LONG_WORDS;
+    }
+    len
+}
+
+// An opening over the first `len` of 3,078 words.
+fn open(page: u64, limit: u64, len: usize) -> LongOpened {
+    let mut words = nines();
+    let lent = part(len);
+    let done = Space::open(page, limit, &mut words[..lent]);
+    let space = done.space;
+    let said = done.answer;
+    LongOpened {
+        words,
+        space,
+        answer: answer::of_open(said),
+    }
+}
+
+// Whether the words from one index up to another are all this one.
+fn all_are(words: &[u64], from: usize, to: usize, word: u64) -> bool {
+    let mut i = from;
+    while i < to {
+        if words.len() <= i {
+            return false;
+        }
+        if words[i] != word {
+            return false;
+        }
+        i = i + 1;
+    }
+    true
+}
+
+// Whether the first `len` words are 0, and the others as they came.
+fn is_cleared(found: LongOpened, len: usize) -> bool {
+    let words = found.words;
+    if !all_are(&words, 0, len, 0) {
+        return false;
+    }
+    all_are(&words, len, LONG_WORDS, 9)
+}
+
+fn state(page: u64, limit: u64) -> Space {
+    Space {
+        page,
+        limit,
+        end: 0,
+        count: 0,
+    }
+}
+
+fn judge(t: Tally, claim: &[u8], held: bool, found: LongOpened) -> Tally {
+    if held {
+        claim::say_ok(claim);
+        return t.held();
+    }
+    claim::say_fail(claim);
+    say_line(b"that answer, its state and its words, found others; the answer found:");
+    let said = found.answer;
+    answer::say_answer(said);
+    say_line(b"");
+    t.failed()
+}
+
+// That the opening is done, gives E = 0 and n = 0, and makes every lent word 0.
+fn opens(t: Tally, claim: &[u8], page: u64, limit: u64, len: usize) -> Tally {
+    let found = open(page, limit, len);
+    let said = found.answer;
+    let now = found.space;
+    if answer::same_answer(Answer::Done, said) {
+        if scene::same_state(state(page, limit), now) {
+            return judge(t, claim, is_cleared(found, len), found);
+        }
+    }
+    judge(t, claim, false, found)
+}
+
+// That the opening is refused with 1, gives four zeros, and leaves every word.
+fn refuses(t: Tally, claim: &[u8], page: u64, limit: u64, len: usize) -> Tally {
+    let found = open(page, limit, len);
+    let said = found.answer;
+    let now = found.space;
+    if answer::same_answer(Answer::Refused(1), said) {
+        if scene::same_state(state(0, 0), now) {
+            return judge(t, claim, is_cleared(found, 0), found);
+        }
+    }
+    judge(t, claim, false, found)
+}
+
+fn pages(t: Tally) -> Tally {
+    let t = refuses(t, b"P = 0 is refused 1", 0, 5120, 36);
+    let t = refuses(t, b"P = 511 is refused 1", 511, 5120, 36);
+    let t = opens(t, b"P = 512 is opened", 512, 5120, 36);
+    let t = opens(t, b"P = 1000 is opened", 1000, 5000, 36);
+    let t = opens(t, b"P = 2^30 is opened", 1073741824, LARGEST_LIMIT, 36);
+    let t = refuses(
+        t,
+        b"P = 2^30 + 1 is refused 1",
+        1073741825,
+        LARGEST_LIMIT,
+        36,
+    );
+    refuses(t, b"P = 2^64 - 1 is refused 1", LARGEST, LARGEST, 36)
+}
+
+fn limits(t: Tally) -> Tally {
+    let t = refuses(t, b"M = 0 is refused 1", 512, 0, 36);
+    let t = refuses(t, b"M = P - 1 is refused 1", 512, 511, 36);
+    let t = opens(t, b"M = P is opened", 512, 512, 36);
+    let t = opens(t, b"M = 2^62 is opened", 512, LARGEST_LIMIT, 36);
+    let t = refuses(t, b"M = 2^62 + 1 is refused 1", 512, LARGEST_LIMIT + 1, 36);
+    refuses(t, b"M = 2^64 - 1 is refused 1", 512, LARGEST, 36)
+}
+
+fn lengths(t: Tally) -> Tally {
+    let t = refuses(t, b"a table of no words is refused 1", 512, 5120, 0);
+    let t = refuses(t, b"9 words are refused 1", 512, 5120, 9);
+    let t = refuses(t, b"11 words are refused 1", 512, 5120, 11);
+    let t = opens(t, b"12 words are opened, C = 4", 512, 5120, 12);
+    let t = refuses(t, b"13 words are refused 1", 512, 5120, 13);
+    let t = refuses(t, b"14 words are refused 1", 512, 5120, 14);
+    let t = opens(t, b"15 words are opened", 512, 5120, 15);
+    let t = opens(t, b"3072 words are opened, C = 1024", 512, 5120, 3072);
+    let t = refuses(t, b"3073 words are refused 1", 512, 5120, 3073);
+    refuses(t, b"3075 words are refused 1", 512, 5120, 3075)
+}
+
+pub fn all(t: Tally) -> Tally {
+    lengths(limits(pages(t)))
+}

@@ -1,0 +1,76 @@
+// The tables that the cases start from.
+use show::scene;
+use show::scene::Call;
+use show::scene::Scene;
+use space::Space;
+use space::place::METADATA;
+use space::place::RAW;
+
+pub fn opened(page: u64, limit: u64, words: usize) -> Scene {
+    let asked = scene::open(page, limit, words);
+    let scene = asked.scene;
+    scene
+}
+
+// Document 01's run before its first step.
+pub fn empty() -> Scene {
+    opened(512, 5120, 36)
+}
+
+// After its first step.
+pub fn one() -> Scene {
+    scene::after(empty(), Call::Allocate(METADATA, 96))
+}
+
+fn first_four() -> [u64; 96] {
+    let w = scene::blank();
+    let w = scene::with_entry(w, 0, 0, 96, 1);
+    let w = scene::with_entry(w, 1, 96, 416, 1);
+    let w = scene::with_entry(w, 2, 512, 100, 2);
+    scene::with_entry(w, 3, 612, 412, 5)
+}
+
+// The words of document 01's table after step 5.
+fn eight() -> [u64; 96] {
+    let w = first_four();
+    let w = scene::with_entry(w, 4, 1024, 700, 3);
+    let w = scene::with_entry(w, 5, 1724, 324, 6);
+    let w = scene::with_entry(w, 6, 2048, 10, 1);
+    scene::with_entry(w, 7, 2058, 502, 4)
+}
+
+// Those words with a state of four numbers.
+pub fn with_state(page: u64, limit: u64, end: u64, count: u64) -> Scene {
+    let words = eight();
+    let space = Space {
+        page,
+        limit,
+        end,
+        count,
+    };
+    Scene {
+        space,
+        words,
+        len: 36,
+    }
+}
+
+// Document 01's run after step 5.
+pub fn five() -> Scene {
+    with_state(512, 5120, 2560, 8)
+}
+
+// C = 4, and four entries: a live and a free one of raw data, a live and a free one of metadata.
+pub fn full() -> Scene {
+    let s = opened(512, 5120, 12);
+    let s = scene::after(s, Call::Allocate(RAW, 100));
+    scene::after(s, Call::Allocate(METADATA, 100))
+}
+
+// C = 4, and four entries, the last two of them large and live.
+pub fn full_of_large() -> Scene {
+    let s = opened(512, 5120, 12);
+    let s = scene::after(s, Call::Allocate(RAW, 100));
+    let s = scene::after(s, Call::Allocate(RAW, 512));
+    scene::after(s, Call::Allocate(RAW, 512))
+}

@@ -1,0 +1,2 @@
+-- The laws that the proofs of `filespace` cite.
+pub mod MapLaws

@@ -1,0 +1,85 @@
+-- `filespace::tables::say_entries` is safe and ends: i goes up to the count of entries.
+-- Assumes nothing.
+use Prim.Native.Nat.{_≤_, _-_}
+use mathlib.Core.Path.{_≡_}
+use lib.ListN.{length}
+use borrow.Author.Needs.{needs}
+use Rattle.filespace.proofs.tables.say_entries.Statement.{statement}
+use Rattle.filespace.proofs.tables.say_entries.Tie as tie
+
+abbrev Inv-loop : tie.InvT-loop
+Inv-loop out₀ from page n table at₀ i₀ out at i = (i ≤ n) × (length out ≡ length out₀)
+
+abbrev μ-loop : tie.MeasureT-loop
+μ-loop out₀ from page n table at₀ i₀ out at i = n - i
+
+loop-holds : tie.Need-loop-holds Inv-loop μ-loop
+loop-holds c = search needs
+
+mul-w : tie.Need-mul-w Inv-loop μ-loop
+mul-w c = search needs
+
+mul-say-entry : tie.Need-mul-say-entry Inv-loop μ-loop
+mul-say-entry c = search needs
+
+shared-slice-read-say-entry : tie.Need-shared-slice-read-say-entry Inv-loop μ-loop
+shared-slice-read-say-entry c = search needs
+
+add-say-entry : tie.Need-add-say-entry Inv-loop μ-loop
+add-say-entry c = search needs
+
+mul-say-entry-2 : tie.Need-mul-say-entry-2 Inv-loop μ-loop
+mul-say-entry-2 c = search needs
+
+shared-slice-read-say-entry-2 : tie.Need-shared-slice-read-say-entry-2 Inv-loop μ-loop
+shared-slice-read-say-entry-2 c = search needs
+
+add-say-entry-2 : tie.Need-add-say-entry-2 Inv-loop μ-loop
+add-say-entry-2 c = search needs
+
+mul-say-entry-3 : tie.Need-mul-say-entry-3 Inv-loop μ-loop
+mul-say-entry-3 c = search needs
+
+shared-slice-read-say-entry-3 : tie.Need-shared-slice-read-say-entry-3 Inv-loop μ-loop
+shared-slice-read-say-entry-3 c = search needs
+
+say-entry-requires : tie.Need-say-entry-requires Inv-loop μ-loop
+say-entry-requires c κs = search needs
+
+add-i : tie.Need-add-i Inv-loop μ-loop
+add-i c = search needs
+
+loop-less : tie.Need-loop-less Inv-loop μ-loop
+loop-less c = search needs
+
+loop-again : tie.Need-loop-again Inv-loop μ-loop
+loop-again c = search needs
+
+same-length : tie.Need-same-length Inv-loop μ-loop
+same-length c = search needs
+
+returns : tie.Need-returns Inv-loop μ-loop
+returns c = search needs
+
+pub say-entries-spec : {M : Type 1} → statement M
+say-entries-spec =
+    tie.close
+    (tie.spec
+    Inv-loop
+    μ-loop
+    loop-holds
+    mul-w
+    mul-say-entry
+    shared-slice-read-say-entry
+    add-say-entry
+    mul-say-entry-2
+    shared-slice-read-say-entry-2
+    add-say-entry-2
+    mul-say-entry-3
+    shared-slice-read-say-entry-3
+    say-entry-requires
+    add-i
+    loop-less
+    loop-again
+    same-length
+    returns)

@@ -1,0 +1,205 @@
+// `filespace` reads calls from standard input, one to a line, and answers each. It is thin: what a word says is the library `script`'s, the
+// calls are those of `space` and `message`. What is here is proved to be safe and to end; what is read and written, nothing can promise.
+mod answer;
+mod calls;
+mod give;
+mod info;
+mod map;
+mod report;
+mod say;
+mod tables;
+
+ghost use mathlib.Core.Path.{_≡_};
+ghost use Prim.Native.Nat.{_≤_};
+ghost use lib.ListN.{length};
+ghost use Rattle.filespace.specs.Lent.{Lent, Carried, lineBytes, tableWords, messageBytes};
+use libc::STDIN_FILENO;
+use report::Run;
+use space::Space;
+
+const LINE: usize = 100000;
+
+const WORDS: usize = 6144;
+
+const BYTES: usize = 50000;
+
+const NEWLINE: u8 = b'\n';
+
+// The words of the lent table, and those that a call names or lends.
+fn words() -> [u64; WORDS]
+    ensures { λ r. ⌜ length r ≡ tableWords ⌝ }
+{
+    [0; WORDS]
+}
+
+fn line_bytes() -> [u8; LINE]
+    ensures { λ r. ⌜ length r ≡ lineBytes ⌝ }
+{
+    [0; LINE]
+}
+
+fn message_bytes() -> [u8; BYTES]
+    ensures { λ r. ⌜ length r ≡ messageBytes ⌝ }
+{
+    [0; BYTES]
+}
+
+// Four zeros over a table of no words.
+fn at_first() -> Run
+    ensures { λ r. ⌜ Carried r ⌝ }
+{
+    Run {
+        space: Space {
+            page: 0,
+            limit: 0,
+            end: 0,
+            count: 0,
+        },
+        used: 0,
+        at: 0,
+        line: 1,
+        filled: 0,
+        is_long: false,
+        is_over: false,
+    }
+}
+
+// A line up to its comment.
+fn answer_line(
+    run: Run,
+    line: &[u8],
+    table: &mut [u64],
+    args: &mut [u64],
+    bytes: &mut [u8],
+    out: &mut [u8],
+) -> Run
+    requires { ⌜ (Lent (now table) (now args) (now bytes) × (run .used ≤ tableWords)) × (length (now line) ≤ lineBytes) ⌝ }
+    ensures { λ r. ⌜ r .used ≤ tableWords ⌝ }
+{
+    let end = script::words::comment_at(line);
+    answer::answer(run, &line[..end], table, args, bytes, out)
+}
+
+// The line is whole: it is answered, and the next one starts.
+fn end_line(
+    run: Run,
+    line: &[u8],
+    table: &mut [u64],
+    args: &mut [u64],
+    bytes: &mut [u8],
+    out: &mut [u8],
+) -> Run
+    requires { ⌜ Lent (now table) (now args) (now bytes) × ((length (now line) ≡ lineBytes) × Carried run) ⌝ }
+    ensures { λ r. ⌜ Carried r ⌝ }
+{
+    if run.is_long {
+        return run.wrong(b"too long", out).next_line();
+    }
+    let filled = run.filled;
+    answer_line(run, &line[..filled], table, args, bytes, out).next_line()
+}
+
+// One byte more of the line. What is longer than a line may be is not kept.
+fn feed(
+    run: Run,
+    byte: u8,
+    line: &mut [u8],
+    table: &mut [u64],
+    args: &mut [u64],
+    bytes: &mut [u8],
+    out: &mut [u8],
+) -> Run
+    requires { ⌜ Lent (now table) (now args) (now bytes) × ((length (now line) ≡ lineBytes) × Carried run) ⌝ }
+    ensures { λ r. ⌜ Carried r ⌝ }
+{
+    if byte == NEWLINE {
+        return end_line(run, line, table, args, bytes, out);
+    }
+    let filled = run.filled;
+    if filled < line.len() {
+        line[filled] = byte;
+        return run.longer();
+    }
+    run.too_long()
+}
+
+// The bytes that were read, one by one.
+fn feed_all(
+    run: Run,
+    text: &[u8],
+    line: &mut [u8],
+    table: &mut [u64],
+    args: &mut [u64],
+    bytes: &mut [u8],
+    out: &mut [u8],
+) -> Run
+    requires { ⌜ Lent (now table) (now args) (now bytes) × ((length (now line) ≡ lineBytes) × Carried run) ⌝ }
+    ensures { λ r. ⌜ Carried r ⌝ }
+{
+    let mut next = run;
+    let mut i = 0;
+    while i < text.len() {
+        next = feed(next, text[i], line, table, args, bytes, out);
+        i += 1;
+    }
+    next
+}
+
+// The input is over: a last line without its end is a line too.
+fn finish(
+    run: Run,
+    line: &[u8],
+    table: &mut [u64],
+    args: &mut [u64],
+    bytes: &mut [u8],
+    out: &mut [u8],
+) -> Run
+    requires { ⌜ Lent (now table) (now args) (now bytes) × ((length (now line) ≡ lineBytes) × Carried run) ⌝ }
+    ensures { λ r. ⌜ Carried r ⌝ }
+{
+    let last = end_line(run, line, table, args, bytes, out);
+    last.flushed(out).over()
+}
+
+// Reads once, and answers the lines that are whole.
+fn turn(
+    run: Run,
+    line: &mut [u8],
+    table: &mut [u64],
+    args: &mut [u64],
+    bytes: &mut [u8],
+    out: &mut [u8],
+) -> Run
+    requires { ⌜ Lent (now table) (now args) (now bytes) × ((length (now line) ≡ lineBytes) × Carried run) ⌝ }
+    ensures { λ r. ⌜ Carried r ⌝ }
+{
+    let mut chunk = io::large_buffer();
+    let got = libc::read(STDIN_FILENO, &mut chunk);
+    if got <= 0 {
+        return finish(run, line, table, args, bytes, out);
+    }
+    let n = io::count(got, &chunk);
+    let next = feed_all(run, &chunk[..n], line, table, args, bytes, out);
+    next.flushed(out)
+}
+
+// A proved loop has to end, and nothing says that the input does. So the loop counts its turns down, from a number that no run uses up.
+fn turns(line: &mut [u8], table: &mut [u64], args: &mut [u64], bytes: &mut [u8], out: &mut [u8])
+    requires { ⌜ Lent (now table) (now args) (now bytes) × (length (now line) ≡ lineBytes) ⌝ }
+{
+    let mut run = at_first();
+    let mut left = u64::MAX;
+    while left > 0 && !run.is_over {
+        run = turn(run, line, table, args, bytes, out);
+        left -= 1;
+    }
+}
+
+fn main() {
+    let mut line = line_bytes();
+    let mut table = words();
+    let mut args = words();
+    let mut bytes = message_bytes();
+    let mut out = io::large_buffer();
+    turns(&mut line, &mut table, &mut args, &mut bytes, &mut out);
+}

@@ -1,0 +1,17 @@
+// Text laid into a lent buffer.
+ghost use Prim.Native.Nat.{_+_, _≤_};
+ghost use lib.ListN.{length};
+ghost use Rattle.script.specs.Laid.{Laid};
+
+// Lays text at a place, and answers where it ends.
+pub fn lay(out: &mut [u8], at: usize, text: &[u8]) -> usize
+    requires { ⌜ at + length (now text) ≤ length (now out) ⌝ }
+    ensures { λ r. ⌜ Laid (now (out .entry)) at (now (text .entry)) r (now (out .exit)) ⌝ }
+{
+    let mut i = 0;
+    while i < text.len() {
+        out[at + i] = text[i];
+        i += 1;
+    }
+    at + text.len()
+}
