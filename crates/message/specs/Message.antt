@@ -25,7 +25,7 @@
 --
 -- Assumes nothing. What is proved of these is in specs/Promises.antt.
 use mathlib.Core.Path.{_≡_}
-use mathlib.Core.Bool.{Bool, true, false, cond, not, _&&_}
+use mathlib.Core.Bool.{Bool, true, cond, not, _&&_}
 use mathlib.Core.List.{List, [], _∷_, _++_}
 use Prim.Native.Nat.{ℕ, _-_, _^_, _<_}
 use lib.Dec.{leb, ltb, eqb}

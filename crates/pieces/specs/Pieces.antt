@@ -6,13 +6,14 @@
 --   Small c            c is one of the two small classes; smallb c is the test
 --   IsFree s           s is free; freeb s is the test
 --   sameClass c d      the test whether c and d are one class
+--   largeFreeb s       the test whether s is free large
 --   kindOf s           the kind of a status, 1 to 6
 --   Kind k             k is a kind; kindb k is the test
 --   statusOf k         the status of a kind; a word that is no kind, which no sound table has, reads as 6
 --   EntryIs es i x     entry i of es is x
 --
 -- Assumes nothing. Laws are in proofs/PieceLaws.antt.
-use mathlib.Core.Bool.{Bool, true, false, cond, _&&_}
+use mathlib.Core.Bool.{Bool, true, false, cond, not, _&&_}
 use mathlib.Core.List.{List, _∷_}
 use Prim.Native.Nat.{ℕ, suc, _+_, _≤_}
 use lib.Dec.{leb, eqb}
@@ -58,6 +59,10 @@ sameClass SmallRaw Large = false
 sameClass Large SmallMetadata = false
 sameClass Large SmallRaw = false
 sameClass Large Large = true
+
+abbrev pub largeFreeb : Status → Bool
+largeFreeb (Live c) = false
+largeFreeb (Free c) = not (smallb c)
 
 abbrev pub kindOf : Status → ℕ
 kindOf (Live SmallMetadata) = 1

@@ -2,6 +2,8 @@
 --
 --   entryWords           the words of an entry: address, size, kind
 --   kindAt w i           the word of w that says entry i's kind
+--   wordsAt w i          the three words of w that say entry i
+--   pieceOf u            the piece that three words say
 --   entryAt w i          entry i of the words w
 --   entries w i k        k entries of w, from entry i on
 --   words es             the words of the entries es
@@ -20,6 +22,7 @@ use mathlib.Core.List.{List, [], _∷_, _++_}
 use Prim.Native.Nat.{ℕ, zero, suc, _+_, _-_, _*_, _≤_, _<_}
 use lib.ListN.{length, getD, take, drop, replicate}
 use Rattle.pieces.specs.declared.Piece.{Piece}
+use Rattle.pieces.specs.declared.Words.{Words}
 use Rattle.pieces.specs.Pieces.{piece, kindOf, Kind, statusOf}
 
 abbrev pub entryWords : ℕ
@@ -34,8 +37,14 @@ kindWord = 2
 abbrev pub kindAt : List ℕ → ℕ → ℕ
 kindAt w i = getD w (i * entryWords + kindWord) 0
 
+abbrev pub wordsAt : List ℕ → ℕ → Words
+wordsAt w i = record { address = getD w (i * entryWords) 0; size = getD w (i * entryWords + sizeWord) 0; kind = kindAt w i }
+
+abbrev pub pieceOf : Words → Piece
+pieceOf u = piece (u .address) (u .size) (statusOf (u .kind))
+
 unfoldable pub entryAt : List ℕ → ℕ → Piece
-entryAt w i = piece (getD w (i * entryWords) 0) (getD w (i * entryWords + sizeWord) 0) (statusOf (kindAt w i))
+entryAt w i = pieceOf (wordsAt w i)
 
 unfoldable pub entries : List ℕ → ℕ → ℕ → List Piece
 entries w i zero = []

@@ -1,13 +1,16 @@
-// A piece with its status, and the words of a lent table that say one. This crate alone knows how many words an entry has and which is which.
+// A piece with its status, and the words of a lent table that say one. This crate alone knows how many words an entry has and which is which,
+// and what numbers the kinds are.
 //
 //     word    | i * 3    | i * 3 + 1 | i * 3 + 2
 //     entry i | address  | size      | kind
+pub mod kind;
+
 ghost use mathlib.Core.Path.{_≡_};
 ghost use mathlib.Core.List.{[], _∷_};
 ghost use Prim.Native.Nat.{_+_, _*_, _≤_};
 ghost use lib.ListN.{length};
-ghost use Rattle.pieces.specs.Pieces.{classOf, freeb, sameClass, kindOf, kindb, statusOf};
-ghost use Rattle.pieces.specs.Words.{entryWords, kindAt, entryAt, laid};
+ghost use Rattle.pieces.specs.Pieces.{classOf, freeb, sameClass, largeFreeb, kindOf, kindb, statusOf};
+ghost use Rattle.pieces.specs.Words.{entryWords, kindAt, wordsAt, entryAt, laid};
 
 pub enum Class {
     SmallMetadata,
@@ -26,11 +29,22 @@ pub struct Piece {
     pub status: Status,
 }
 
+// The three words of an entry as they stand, whatever they say.
+pub struct Words {
+    pub address: u64,
+    pub size: u64,
+    pub kind: u64,
+}
+
 pub const ENTRY_WORDS: usize = 3;
 
 const SIZE_WORD: usize = 1;
 
 const KIND_WORD: usize = 2;
+
+const LEAST_KIND: u64 = 1;
+
+const LARGEST_KIND: u64 = 6;
 
 pub fn class_of(status: Status) -> Class
     ensures { λ r. ⌜ r ≡ classOf status ⌝ }
@@ -72,6 +86,20 @@ pub fn same_class(a: Class, b: Class) -> bool
     }
 }
 
+// Whether a status is free large.
+pub fn is_large_free(status: Status) -> bool
+    ensures { λ r. ⌜ r ≡ largeFreeb status ⌝ }
+{
+    match status {
+        Status::Live(_) => false,
+        Status::Free(c) => match c {
+            Class::SmallMetadata => false,
+            Class::SmallRaw => false,
+            Class::Large => true,
+        },
+    }
+}
+
 // The kind, 1 to 6, of a status.
 pub fn kind_of(status: Status) -> u64
     ensures { λ r. ⌜ r ≡ kindOf status ⌝ }
@@ -94,10 +122,10 @@ pub fn kind_of(status: Status) -> u64
 pub fn is_kind(word: u64) -> bool
     ensures { λ r. ⌜ r ≡ kindb word ⌝ }
 {
-    if word < 1 {
+    if word < LEAST_KIND {
         return false;
     }
-    word <= 6
+    word <= LARGEST_KIND
 }
 
 // The status of a kind. A word that is no kind, which no sound table has, is read as 6.
@@ -122,16 +150,29 @@ pub fn kind_at(table: &[u64], i: usize) -> u64
     table[i * ENTRY_WORDS + KIND_WORD]
 }
 
+// The words of entry i.
+pub fn words_at(table: &[u64], i: usize) -> Words
+    requires { ⌜ (i + 1) * entryWords ≤ length (now table) ⌝ }
+    ensures { λ r. ⌜ r ≡ wordsAt (now (table .entry)) i ⌝ }
+{
+    let at = i * ENTRY_WORDS;
+    Words {
+        address: table[at],
+        size: table[at + SIZE_WORD],
+        kind: table[at + KIND_WORD],
+    }
+}
+
 // Entry i.
 pub fn piece_at(table: &[u64], i: usize) -> Piece
     requires { ⌜ (i + 1) * entryWords ≤ length (now table) ⌝ }
     ensures { λ r. ⌜ r ≡ entryAt (now (table .entry)) i ⌝ }
 {
-    let at = i * ENTRY_WORDS;
+    let words = words_at(table, i);
     Piece {
-        address: table[at],
-        size: table[at + SIZE_WORD],
-        status: status_of(table[at + KIND_WORD]),
+        address: words.address,
+        size: words.size,
+        status: status_of(words.kind),
     }
 }
 

@@ -11,8 +11,7 @@ use native.Mathlib.Omega.{arith}
 use borrow.Author.Tests.{eq-eqb, ne-eqb, lt-ltb, le-ltb}
 use Rattle.pages.proofs.PageLaws.{decBorder, up-of, up-least, up-mono}
 use Rattle.pages.specs.Pages.{up, Border}
-use Rattle.pieces.proofs.PieceLaws.{large}
-use Rattle.pieces.specs.Pieces.{piece, behind, classOf, Small}
+use Rattle.pieces.specs.Pieces.{piece, classOf, Small}
 use Rattle.pieces.specs.declared.Class.the-variants.{Large}
 use Rattle.pieces.specs.declared.Class.{Class}
 use Rattle.pieces.specs.declared.Piece.{Piece}
@@ -23,7 +22,7 @@ use Rattle.table.proofs.Build.{large-apart}
 use Rattle.table.proofs.Canon.{canon, live-apart, live-whole, apart-widen}
 use Rattle.table.proofs.Chain.{ChainFrom, stop, step}
 use Rattle.table.proofs.GapLaws.{apart-le}
-use Rattle.table.specs.Fill.{lives, free, Whole, Apart, border-between, one-family, GoodFrom, none, next}
+use Rattle.table.specs.Fill.{lives, Whole, Apart, border-between, one-family, GoodFrom, none, next}
 
 module _ (P : ℕ) (pos : 0 < P) where
   good-earlier : {c : Class} {e' e : ℕ} {ps : List Piece} → e' ≤ e → GoodFrom P c e ps → GoodFrom P c e' ps

@@ -16,7 +16,7 @@ use Rattle.pages.proofs.Numbers.{split}
 use Rattle.pages.proofs.PageLaws.{decBorder, down-le, down-lt, down-border, up-border, up-ge, up-lt, border-same, up-in, up-of, up-least, down-most, up-down}
 use Rattle.pages.specs.Pages.{down, up, Border}
 use Rattle.pieces.proofs.PieceLaws.{View, small, large, view}
-use Rattle.pieces.specs.Pieces.{piece, behind, Small}
+use Rattle.pieces.specs.Pieces.{piece, Small}
 use Rattle.pieces.specs.declared.Class.the-variants.{Large}
 use Rattle.pieces.specs.declared.Class.{Class}
 use Rattle.pieces.specs.declared.Piece.{Piece}

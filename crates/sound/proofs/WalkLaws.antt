@@ -1,7 +1,7 @@
 -- Laws of the walk: the tests by what is left of the page are those of `table`, and one turn of the loop is one step of the local test.
 --
--- In this order: the tests by what is left; one step; a turn of the loop, for the kinds and the chain together; the words behind;
--- the ranges; one entry, rule by rule; the whole test, part by part.
+-- In this order: the tests by what is left; one step; one entry, rule by rule; a turn of the loop, for the kinds and the chain together; the
+-- words behind; the ranges; the whole test, part by part.
 --
 -- Assumes nothing.
 use Prim.Native.Nat.{ℕ, suc, _+_, _-_, _*_, _%_, _≤_, _<_}
@@ -14,21 +14,23 @@ use lib.Dec.{leb, eqb}
 use lib.ListN.{length, getD, drop, drop-of-length-le}
 use lib.Seq.{drop-cons}
 use borrow.Author.Tests.{le-leb, lt-leb, lt-ltb, le-ltb, eq-eqb, ne-eqb}
-use Rattle.pages.proofs.Numbers.{split, leb-same, and-false}
+use Rattle.pages.proofs.Numbers.{split, leb-same, and-false, not-both}
 use Rattle.pages.proofs.PageLaws.{decBorder, true-border, false-border, left-down, left-of, left-full, left-within, left-exact, left-beyond}
 use Rattle.pages.specs.Pages.{pageSizeb, borderb, down, left}
 use Rattle.pieces.proofs.WordLaws.{entries-next, entries-none}
-use Rattle.pieces.specs.Pieces.{classOf, freeb, sameClass, kindb}
-use Rattle.pieces.specs.Words.{entryWords, kindAt, entryAt, entries}
+use Rattle.pieces.proofs.PieceLaws.{kind-true, status-kind}
+use Rattle.pieces.specs.Pieces.{classOf, smallb, freeb, sameClass, largeFreeb, kindOf, kindb, statusOf}
+use Rattle.pieces.specs.Words.{entryWords, kindAt, wordsAt, pieceOf, entryAt, entries}
 use Rattle.pieces.specs.declared.Class.the-variants.{SmallMetadata, SmallRaw, Large}
 use Rattle.pieces.specs.declared.Piece.{Piece}
+use Rattle.pieces.specs.declared.Words.{Words}
 use Rattle.pieces.specs.declared.Status.the-variants.{Live, Free}
 use Rattle.pieces.specs.declared.Status.{Status}
-use Rattle.sound.specs.Walk.{withinLeft, largeLeft, shapeByLeft, besideByLeft, leftBehind, walkAt, stepped}
+use Rattle.sound.specs.Walk.{withinLeft, largeLeft, shapeByLeft, besideByLeft, leftBehind, walkAt, Walked, stepped}
 use Rattle.sound.specs.declared.walk.Step.the-variants.{On, Broken}
 use Rattle.sound.specs.declared.walk.Walk.{Walk}
 use Rattle.table.proofs.LocalLaws.{entry-room}
-use Rattle.table.specs.Local.{tableLengthb, rangesb, withinb, shapeb, largeFreeb, besideb, cutb, entryb, noneb, chainb, kindsb, zerosb, localb}
+use Rattle.table.specs.Local.{tableLengthb, rangesb, withinb, shapeb, besideb, cutb, entryb, noneb, chainb, kindsb, zerosb, localb}
 use Rattle.table.specs.Sound.{largestLimit, capacity}
 
 -- ---- the tests of one entry, as the code makes them
@@ -44,6 +46,29 @@ large-on P l z h = rw (eq-eqb l P h)
 
 pub large-off : (P l z : ℕ) → (l ≡ P → ⊥) → largeLeft P l z ≡ false
 large-off P l z h = rw (ne-eqb l P h)
+
+pub shape-small : (P l : ℕ) (s : Status) (z : ℕ) → smallb (classOf s) ≡ true → shapeByLeft P l s z ≡ withinLeft P l z
+unfolding shapeByLeft
+shape-small P l (Live SmallMetadata) z h = refl
+shape-small P l (Live SmallRaw) z h = refl
+shape-small P l (Live Large) z h = absurd (not-both h refl)
+shape-small P l (Free SmallMetadata) z h = refl
+shape-small P l (Free SmallRaw) z h = refl
+shape-small P l (Free Large) z h = absurd (not-both h refl)
+
+pub shape-free : (P l : ℕ) (s : Status) (z : ℕ) → smallb (classOf s) ≡ false → freeb s ≡ true → shapeByLeft P l s z ≡ true
+unfolding shapeByLeft
+shape-free P l (Live c) z h f = absurd (not-both f refl)
+shape-free P l (Free SmallMetadata) z h f = absurd (not-both refl h)
+shape-free P l (Free SmallRaw) z h f = absurd (not-both refl h)
+shape-free P l (Free Large) z h f = refl
+
+pub shape-large : (P l : ℕ) (s : Status) (z : ℕ) → smallb (classOf s) ≡ false → freeb s ≡ false → shapeByLeft P l s z ≡ largeLeft P l z
+unfolding shapeByLeft
+shape-large P l (Live SmallMetadata) z h f = absurd (not-both refl h)
+shape-large P l (Live SmallRaw) z h f = absurd (not-both refl h)
+shape-large P l (Live Large) z h f = refl
+shape-large P l (Free c) z h f = absurd (not-both refl f)
 
 pub beside-on : (P l : ℕ) (s t : Status) → l ≡ P → besideByLeft P l s t ≡ not (largeFreeb s && largeFreeb t)
 unfolding besideByLeft
@@ -81,7 +106,7 @@ module _ (P : ℕ) (pos : 0 < P) (a l : ℕ) (is : l ≡ left P a) where
         | no nb ↦ ne-eqb l P (λ e. nb (left-full P pos (sym is ∙ e))) ∙ sym (false-border P a nb)
       ]
 
-  pub shape-left : (t : Status) (z : ℕ) → shapeByLeft P l t z ≡ shapeb P t a z
+  shape-left : (t : Status) (z : ℕ) → shapeByLeft P l t z ≡ shapeb P t a z
   unfolding shapeByLeft shapeb
   shape-left (Live SmallMetadata) z = within-left z
   shape-left (Live SmallRaw) z = within-left z
@@ -90,7 +115,7 @@ module _ (P : ℕ) (pos : 0 < P) (a l : ℕ) (is : l ≡ left P a) where
   shape-left (Free SmallRaw) z = within-left z
   shape-left (Free Large) z = refl
 
-  pub beside-left : (s t : Status) → besideByLeft P l s t ≡ besideb P s a t
+  beside-left : (s t : Status) → besideByLeft P l s t ≡ besideb P s a t
   unfolding besideByLeft besideb
   beside-left s t = rw border-left
 
@@ -104,36 +129,72 @@ module _ (P : ℕ) (pos : 0 < P) (a l : ℕ) (is : l ≡ left P a) where
 
 -- ---- one step
 
-pub stepped-on : (P E : ℕ) (v : Walk) (x : Piece) (last : Bool) → entryb P E (v .status) (v .at) x last ≡ true
-    → stepped P E v x last ≡ On (walkAt P (v .at + x .size) (x .status))
-unfolding stepped
-stepped-on P E v x last h = rw h
+-- the test of the entry that the words u say, behind the walk v
+abbrev tested : ℕ → ℕ → Walk → Words → Bool → Bool
+tested P E v u last = entryb P E (statusOf (v .kind)) (v .at) (pieceOf u) last
 
-pub stepped-broken : (P E : ℕ) (v : Walk) (x : Piece) (last : Bool) → entryb P E (v .status) (v .at) x last ≡ false → stepped P E v x last ≡ Broken
-unfolding stepped
-stepped-broken P E v x last h = rw h
+abbrev behindWords : ℕ → Walk → Words → Walk
+behindWords P v u = walkAt P (v .at + u .size) (u .kind)
 
-record Went (P E : ℕ) (v : Walk) (x : Piece) (last : Bool) (next : Walk) : Type 0 where
-  holds : entryb P E (v .status) (v .at) x last ≡ true
-  is : next ≡ walkAt P (v .at + x .size) (x .status)
-
-went : (P E : ℕ) (v : Walk) (x : Piece) (last : Bool) (next : Walk) → stepped P E v x last ≡ On next → Went P E v x last next
+pub stepped-on : (P E : ℕ) (v : Walk) (u : Words) (last : Bool) → tested P E v u last ≡ true → stepped P E v u last ≡ On (behindWords P v u)
 unfolding stepped
-went P E v x last next e = go (entryb P E (v .status) (v .at) x last) refl e
+stepped-on P E v u last h = rw h
+
+pub stepped-broken : (P E : ℕ) (v : Walk) (u : Words) (last : Bool) → tested P E v u last ≡ false → stepped P E v u last ≡ Broken
+unfolding stepped
+stepped-broken P E v u last h = rw h
+
+record Went (P E : ℕ) (v : Walk) (u : Words) (last : Bool) (next : Walk) : Type 0 where
+  holds : tested P E v u last ≡ true
+  is : next ≡ behindWords P v u
+
+went : (P E : ℕ) (v : Walk) (u : Words) (last : Bool) (next : Walk) → stepped P E v u last ≡ On next → Went P E v u last next
+unfolding stepped
+went P E v u last next e = go (tested P E v u last) refl e
   where
-    go : (t : Bool) → entryb P E (v .status) (v .at) x last ≡ t → cond t (On (walkAt P (v .at + x .size) (x .status))) Broken ≡ On next
-        → Went P E v x last next
+    go : (t : Bool) → tested P E v u last ≡ t → cond t (On (behindWords P v u)) Broken ≡ On next → Went P E v u last next
     go true h q = record { holds = h; is = cc }
     go false h q = let z : _≡_ {A = ℕ} 0 1 = cc in absurd (omega arith)
 
-broke : (P E : ℕ) (v : Walk) (x : Piece) (last : Bool) → stepped P E v x last ≡ Broken → entryb P E (v .status) (v .at) x last ≡ false
+broke : (P E : ℕ) (v : Walk) (u : Words) (last : Bool) → stepped P E v u last ≡ Broken → tested P E v u last ≡ false
 unfolding stepped
-broke P E v x last e = go (entryb P E (v .status) (v .at) x last) refl e
+broke P E v u last e = go (tested P E v u last) refl e
   where
-    go : (t : Bool) → entryb P E (v .status) (v .at) x last ≡ t → cond t (On (walkAt P (v .at + x .size) (x .status))) Broken ≡ Broken
-        → entryb P E (v .status) (v .at) x last ≡ false
+    go : (t : Bool) → tested P E v u last ≡ t → cond t (On (behindWords P v u)) Broken ≡ Broken → tested P E v u last ≡ false
     go true h q = let z : _≡_ {A = ℕ} 0 1 = cc in absurd (omega arith)
     go false h q = h
+
+-- ---- one entry, up to the first rule that fails; the walk tests it by what is left of the page
+
+module _ (P E : ℕ) (s : Status) (a : ℕ) (x : Piece) (last : Bool) where
+  pub entry-elsewhere : (x .address ≡ a → ⊥) → entryb P E s a x last ≡ false
+  unfolding entryb
+  entry-elsewhere h = rw (ne-eqb (x .address) a h)
+
+  pub entry-empty : x .address ≡ a → x .size < 1 → entryb P E s a x last ≡ false
+  unfolding entryb
+  entry-empty h1 h = rw (eq-eqb (x .address) a h1, lt-leb 1 (x .size) h)
+
+  pub entry-beyond : x .address ≡ a → 1 ≤ x .size → E - a < x .size → entryb P E s a x last ≡ false
+  unfolding entryb
+  entry-beyond h1 h2 h = rw (eq-eqb (x .address) a h1, le-leb 1 (x .size) h2, lt-leb (a + x .size) E (omega arith))
+
+  entry-here : x .address ≡ a → 1 ≤ x .size → a ≤ E → x .size ≤ E - a
+      → entryb P E s a x last ≡ (shapeb P (x .status) a (x .size) && (besideb P s a (x .status) && cutb P (x .status) (x .size) last))
+  unfolding entryb
+  entry-here h1 h2 h3 h4 = rw (eq-eqb (x .address) a h1, le-leb 1 (x .size) h2, le-leb (a + x .size) E (omega arith))
+
+-- what is still to be tested of an entry that starts here, has a byte and ends within the file
+pub tested-here : (P E : ℕ) (v : Walk) (u : Words) (last : Bool) → Walked P E v → u .address ≡ v .at → 1 ≤ u .size → u .size ≤ E - v .at
+    → tested P E v u last
+    ≡ (shapeByLeft P (v .left) (statusOf (u .kind)) (u .size)
+    && (besideByLeft P (v .left) (statusOf (v .kind)) (statusOf (u .kind)) && cutb P (statusOf (u .kind)) (u .size) last))
+tested-here P E v u last q h1 h2 h3 =
+    entry-here P E (statusOf (v .kind)) (v .at) (pieceOf u) last h1 h2 (q .0 .1) h3
+    ∙ sym (rw (
+      shape-left P (q .0 .0) (v .at) (v .left) (q .1 .0) (statusOf (u .kind)) (u .size),
+      beside-left P (q .0 .0) (v .at) (v .left) (q .1 .0) (statusOf (v .kind)) (statusOf (u .kind)),
+    ))
 
 -- ---- a turn of the loop
 
@@ -157,49 +218,62 @@ module _ (P E : ℕ) (w : List ℕ) (n i : ℕ) (s : Status) (a : ℕ) where
   unfolding chainb
   chain-next h = rw (entries-next w n i h, last-entry w n i h)
 
-  pub rest-next : i < n → kindb (kindAt w i) ≡ true → entryb P E s a (entryAt w i) (eqb (i + 1) n) ≡ true
-      → rest P E w n i s a ≡ rest P E w n (i + 1) (entryAt w i .status) (a + entryAt w i .size)
-  rest-next h k e = rw (kinds-next h, chain-next h, k, e)
+  module _ (u : Words) (is : u ≡ wordsAt w i) (h : i < n) where
+    entry-said : entryAt w i ≡ pieceOf u
+    unfolding entryAt
+    entry-said = ap pieceOf (sym is)
 
-  pub rest-no-kind : i < n → kindb (kindAt w i) ≡ false → rest P E w n i s a ≡ false
-  rest-no-kind h k = rw (kinds-next h, k)
+    kind-said : kindAt w i ≡ u .kind
+    kind-said = ap (λ (t : Words). t .kind) (sym is)
 
-  pub rest-broken : i < n → entryb P E s a (entryAt w i) (eqb (i + 1) n) ≡ false → rest P E w n i s a ≡ false
-  rest-broken h e = and-false (kindsb w i (n - i)) (chain-next h ∙ rw e)
+    rest-next : kindb (u .kind) ≡ true → entryb P E s a (pieceOf u) (eqb (i + 1) n) ≡ true
+        → rest P E w n i s a ≡ rest P E w n (i + 1) (statusOf (u .kind)) (a + u .size)
+    rest-next k e = rw (kinds-next h, chain-next h, kind-said, entry-said, k, e)
+
+    rest-no-kind : kindb (u .kind) ≡ false → rest P E w n i s a ≡ false
+    rest-no-kind k = rw (kinds-next h, kind-said, k)
+
+    rest-broken : entryb P E s a (pieceOf u) (eqb (i + 1) n) ≡ false → rest P E w n i s a ≡ false
+    rest-broken e = and-false (kindsb w i (n - i)) (chain-next h ∙ rw (entry-said, e))
 
   pub rest-end : n ≤ i → rest P E w n i s a ≡ eqb a E
   unfolding kindsb chainb
   rest-end h = let e : n - i ≡ 0 = omega arith in rw (entries-none w n i h, e)
 
-pub rest-all : (P E : ℕ) (w : List ℕ) (n : ℕ) (s : Status) (a : ℕ) → rest P E w n 0 s a ≡ (kindsb w 0 n && chainb P E s a (entries w 0 n))
-rest-all P E w n s a = let e : n - 0 ≡ n = omega arith in rw e
+-- before the first entry
+pub walked-start : (P E : ℕ) → 0 < P → Walked P E (walkAt P 0 (kindOf (Live Large)))
+walked-start P E pos = ((pos, omega arith), (refl, record { least = omega arith; largest = omega arith }))
+
+pub rest-start : (P E : ℕ) (w : List ℕ) (n : ℕ)
+    → rest P E w n 0 (statusOf (kindOf (Live Large))) 0 ≡ (kindsb w 0 n && chainb P E (Live Large) 0 (entries w 0 n))
+rest-start P E w n = let e : n - 0 ≡ n = omega arith in rw (e, status-kind (Live Large))
 
 -- a turn that goes on, and one that stops
 pub record Turn (P E : ℕ) (w : List ℕ) (n i : ℕ) (v next : Walk) : Type 0 where
-  pub within : next .at ≤ E
-  pub left-is : next .left ≡ left P (next .at)
-  pub same : rest P E w n i (v .status) (v .at) ≡ rest P E w n (i + 1) (next .status) (next .at)
+  pub walked : Walked P E next
+  pub same : rest P E w n i (statusOf (v .kind)) (v .at) ≡ rest P E w n (i + 1) (statusOf (next .kind)) (next .at)
 
-pub turn : (P E : ℕ) (w : List ℕ) (n i : ℕ) (v : Walk) (x : Piece) (next : Walk) → i < n → kindb (kindAt w i) ≡ true → x ≡ entryAt w i
-    → stepped P E v x (eqb (i + 1) n) ≡ On next → Turn P E w n i v next
-turn P E w n i v x next h k is e =
-    let g : Went P E v x (eqb (i + 1) n) next = went P E v x (eqb (i + 1) n) next e in
-    let f : entryb P E (v .status) (v .at) (entryAt w i) (eqb (i + 1) n) ≡ true = rw is at (g .holds) in
-    let at-is : next .at ≡ v .at + x .size = ap (λ (u : Walk). u .at) (g .is) in
-    let status-is : next .status ≡ x .status = ap (λ (u : Walk). u .status) (g .is) in
-    record {
-      within = omega (arith, entry-room P E (v .status) (v .at) x (eqb (i + 1) n) (g .holds));
-      left-is = ap (λ (u : Walk). u .left) (g .is) ∙ ap (left P) (sym at-is);
-      same = rest-next P E w n i (v .status) (v .at) h k f
-          ∙ (ap (λ (u : Piece). rest P E w n (i + 1) (u .status) (v .at + u .size)) (sym is)
-          ∙ (ap (λ (t : Status). rest P E w n (i + 1) t (v .at + x .size)) (sym status-is) ∙ ap (rest P E w n (i + 1) (next .status)) (sym at-is)));
-    }
+module _ (P E : ℕ) (w : List ℕ) (n i : ℕ) (v : Walk) (u : Words) (h : i < n) (is : u ≡ wordsAt w i) where
+  pub turn : (next : Walk) → 0 < P → kindb (u .kind) ≡ true → stepped P E v u (eqb (i + 1) n) ≡ On next → Turn P E w n i v next
+  turn next pos k e =
+      let g : Went P E v u (eqb (i + 1) n) next = went P E v u (eqb (i + 1) n) next e in
+      let at-is : next .at ≡ v .at + u .size = ap (λ (t : Walk). t .at) (g .is) in
+      let kind-is : next .kind ≡ u .kind = ap (λ (t : Walk). t .kind) (g .is) in
+      let on : rest P E w n i (statusOf (v .kind)) (v .at) ≡ rest P E w n (i + 1) (statusOf (u .kind)) (v .at + u .size) =
+      rest-next P E w n i (statusOf (v .kind)) (v .at) u is h k (g .holds) in
+      record {
+        walked = (
+          (pos, omega (arith, entry-room P E (statusOf (v .kind)) (v .at) (pieceOf u) (eqb (i + 1) n) (g .holds))),
+          (ap (λ (t : Walk). t .left) (g .is) ∙ ap (left P) (sym at-is), kind-true (next .kind) (ap kindb kind-is ∙ k)),
+        );
+        same = on ∙ sym (rw (at-is, kind-is));
+      }
 
-pub turn-broken : (P E : ℕ) (w : List ℕ) (n i : ℕ) (v : Walk) (x : Piece) → i < n → x ≡ entryAt w i → stepped P E v x (eqb (i + 1) n) ≡ Broken
-    → rest P E w n i (v .status) (v .at) ≡ false
-turn-broken P E w n i v x h is e =
-    let f : entryb P E (v .status) (v .at) (entryAt w i) (eqb (i + 1) n) ≡ false = rw is at (broke P E v x (eqb (i + 1) n) e) in
-    rest-broken P E w n i (v .status) (v .at) h f
+  pub turn-broken : stepped P E v u (eqb (i + 1) n) ≡ Broken → rest P E w n i (statusOf (v .kind)) (v .at) ≡ false
+  turn-broken e = rest-broken P E w n i (statusOf (v .kind)) (v .at) u is h (broke P E v u (eqb (i + 1) n) e)
+
+  pub turn-no-kind : kindb (u .kind) ≡ false → rest P E w n i (statusOf (v .kind)) (v .at) ≡ false
+  turn-no-kind k = rest-no-kind P E w n i (statusOf (v .kind)) (v .at) u is h k
 
 -- ---- the words behind
 
@@ -243,27 +317,6 @@ module _ (P M E n len : ℕ) where
       → rangesb P M E n len ≡ (tableLengthb len && leb n (capacity len))
   unfolding rangesb
   ranges-slice e1 h2 h3 e4 h5 = rw (e1, le-leb P M h2, le-leb M largestLimit h3, e4, le-leb E M h5)
-
--- ---- one entry, up to the first rule that fails
-
-module _ (P E : ℕ) (s : Status) (a : ℕ) (x : Piece) (last : Bool) where
-  pub entry-elsewhere : (x .address ≡ a → ⊥) → entryb P E s a x last ≡ false
-  unfolding entryb
-  entry-elsewhere h = rw (ne-eqb (x .address) a h)
-
-  pub entry-empty : x .address ≡ a → x .size < 1 → entryb P E s a x last ≡ false
-  unfolding entryb
-  entry-empty h1 h = rw (eq-eqb (x .address) a h1, lt-leb 1 (x .size) h)
-
-  pub entry-beyond : x .address ≡ a → 1 ≤ x .size → E - a < x .size → entryb P E s a x last ≡ false
-  unfolding entryb
-  entry-beyond h1 h2 h = rw (eq-eqb (x .address) a h1, le-leb 1 (x .size) h2, lt-leb (a + x .size) E (omega arith))
-
-  -- what is still to be tested of an entry that starts here, has a byte and ends within the file
-  pub entry-here : x .address ≡ a → 1 ≤ x .size → a ≤ E → x .size ≤ E - a
-      → entryb P E s a x last ≡ (shapeb P (x .status) a (x .size) && (besideb P s a (x .status) && cutb P (x .status) (x .size) last))
-  unfolding entryb
-  entry-here h1 h2 h3 h4 = rw (eq-eqb (x .address) a h1, le-leb 1 (x .size) h2, le-leb (a + x .size) E (omega arith))
 
 -- ---- the whole test, part by part
 

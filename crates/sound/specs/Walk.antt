@@ -5,20 +5,23 @@
 --   shapeByLeft P l t z       shapeb, with l bytes left of the page
 --   besideByLeft P l s t      besideb, with l bytes left of the page
 --   leftBehind P l z          what is left of the page behind z bytes
---   walkAt P a s              the walk behind an entry of status s that ends at a
---   stepped P E v x last      the walk v behind the next entry x, if that keeps the rules
+--   walkAt P a k              the walk behind an entry of kind k that ends at a
+--   Walked P E v              the walk v stands in a file that ends at E, behind a kind, and carries what is left of the page
+--   stepped P E v u last      the walk v behind the next entry, which the words u say, if that keeps the rules
 --
 -- Assumes nothing. That these say the same as `table`'s tests is proved in proofs/WalkLaws.antt.
 use mathlib.Core.Bool.{Bool, true, cond, not, _&&_}
-use Prim.Native.Nat.{ℕ, _+_, _-_, _%_}
+use mathlib.Core.Path.{_≡_}
+use Prim.Native.Nat.{ℕ, _+_, _-_, _%_, _≤_, _<_}
 use lib.Dec.{leb, ltb, eqb}
 use Rattle.pages.specs.Pages.{left}
 use Rattle.pieces.specs.declared.Class.the-variants.{SmallMetadata, SmallRaw, Large}
 use Rattle.pieces.specs.declared.Status.{Status}
 use Rattle.pieces.specs.declared.Status.the-variants.{Live, Free}
-use Rattle.pieces.specs.declared.Piece.{Piece}
-use Rattle.pieces.specs.Pieces.{classOf, freeb, sameClass}
-use Rattle.table.specs.Local.{largeFreeb, entryb}
+use Rattle.pieces.specs.declared.Words.{Words}
+use Rattle.pieces.specs.Pieces.{classOf, freeb, sameClass, largeFreeb, Kind, statusOf}
+use Rattle.pieces.specs.Words.{pieceOf}
+use Rattle.table.specs.Local.{entryb}
 use Rattle.sound.specs.declared.walk.Walk.{Walk}
 use Rattle.sound.specs.declared.walk.Step.{Step}
 use Rattle.sound.specs.declared.walk.Step.the-variants.{On, Broken}
@@ -45,9 +48,12 @@ besideByLeft P l s t =
 unfoldable pub leftBehind : ℕ → ℕ → ℕ → ℕ
 leftBehind P l z = cond (ltb z l) (l - z) (cond (eqb z l) P (P - (z - l) % P))
 
-abbrev pub walkAt : ℕ → ℕ → Status → Walk
-walkAt P a s = record { at = a; left = left P a; status = s }
+abbrev pub walkAt : ℕ → ℕ → ℕ → Walk
+walkAt P a k = record { at = a; left = left P a; kind = k }
 
-unfoldable pub stepped : ℕ → ℕ → Walk → Piece → Bool → Step
-stepped P E v x last =
-    cond (entryb P E (v .status) (v .at) x last) (On (walkAt P (v .at + x .size) (x .status))) Broken
+abbrev pub Walked : ℕ → ℕ → Walk → Type 0
+Walked P E v = ((0 < P) × (v .at ≤ E)) × ((v .left ≡ left P (v .at)) × Kind (v .kind))
+
+unfoldable pub stepped : ℕ → ℕ → Walk → Words → Bool → Step
+stepped P E v u last =
+    cond (entryb P E (statusOf (v .kind)) (v .at) (pieceOf u) last) (On (walkAt P (v .at + u .size) (u .kind))) Broken

@@ -66,10 +66,10 @@ pub fn entries_hold(page: u64, end: u64, n: usize, table: &[u64]) -> bool
     let mut walk = walk::start(page);
     let mut i: usize = 0;
     while i < n {
-        if !pieces::is_kind(pieces::kind_at(table, i)) {
+        let entry = pieces::words_at(table, i);
+        if !pieces::is_kind(entry.kind) {
             return false;
         }
-        let entry = pieces::piece_at(table, i);
         let walk::Step::On(next) = walk::advance(page, end, walk, entry, i + 1 == n) else {
             return false;
         };

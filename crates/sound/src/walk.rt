@@ -1,21 +1,23 @@
 // One step of the walk over the entries. The walk carries the bytes that are left of the page, so that a small entry is tested with
-// comparisons and differences alone: only a large entry that runs over a border costs a remainder.
+// comparisons and differences alone: only a large entry that runs over a border costs a remainder. It reads no status, but asks the kinds.
 ghost use mathlib.Core.Path.{_≡_};
-ghost use Prim.Native.Nat.{_≤_, _<_};
-ghost use Rattle.pages.specs.Pages.{left};
+ghost use mathlib.Core.Bool.{not, _&&_};
+ghost use Prim.Native.Nat.{_<_};
 ghost use Rattle.pieces.specs.declared.Class.the-variants.{Large};
 ghost use Rattle.pieces.specs.declared.Status.the-variants.{Live};
-ghost use Rattle.table.specs.Local.{largeFreeb, cutb};
-ghost use Rattle.sound.specs.Walk.{withinLeft, largeLeft, shapeByLeft, besideByLeft, leftBehind, walkAt, stepped};
+ghost use Rattle.pieces.specs.Pieces.{classOf, freeb, sameClass, largeFreeb, kindOf, Kind, statusOf};
+ghost use Rattle.table.specs.Local.{cutb};
+ghost use Rattle.sound.specs.Walk.{withinLeft, largeLeft, shapeByLeft, besideByLeft, leftBehind, walkAt, Walked, stepped};
 use pieces::Class;
-use pieces::Piece;
 use pieces::Status;
+use pieces::Words;
+use pieces::kind;
 
-// Where the walk has come: behind an entry of this status that ends at `at`, with `left` bytes to the first border above it.
+// Where the walk has come: behind an entry of this kind that ends at `at`, with `left` bytes to the first border above it.
 pub struct Walk {
     pub at: u64,
     pub left: u64,
-    pub status: Status,
+    pub kind: u64,
 }
 
 pub enum Step {
@@ -26,26 +28,12 @@ pub enum Step {
 // Before the first entry all is as behind a live large one that ends at 0.
 pub fn start(p: u64) -> Walk
     requires { ⌜ 0 < p ⌝ }
-    ensures { λ r. ⌜ r ≡ walkAt p 0 (Live Large) ⌝ }
+    ensures { λ r. ⌜ r ≡ walkAt p 0 (kindOf (Live Large)) ⌝ }
 {
     Walk {
         at: 0,
         left: p,
-        status: Status::Live(Class::Large),
-    }
-}
-
-// A free large entry.
-pub fn is_large_free(status: Status) -> bool
-    ensures { λ r. ⌜ r ≡ largeFreeb status ⌝ }
-{
-    match status {
-        Status::Live(_) => false,
-        Status::Free(c) => match c {
-            Class::SmallMetadata => false,
-            Class::SmallRaw => false,
-            Class::Large => true,
-        },
+        kind: pieces::kind_of(Status::Live(Class::Large)),
     }
 }
 
@@ -70,48 +58,62 @@ fn large_holds(p: u64, left: u64, size: u64) -> bool
 }
 
 // An entry by itself.
-pub fn shape_holds(p: u64, left: u64, status: Status, size: u64) -> bool
-    ensures { λ r. ⌜ r ≡ shapeByLeft p left status size ⌝ }
+fn shape_holds(p: u64, left: u64, kind: u64, size: u64) -> bool
+    requires { ⌜ Kind kind ⌝ }
+    ensures { λ r. ⌜ r ≡ shapeByLeft p left (statusOf kind) size ⌝ }
 {
-    match status {
-        Status::Live(c) => match c {
-            Class::SmallMetadata => small_holds(p, left, size),
-            Class::SmallRaw => small_holds(p, left, size),
-            Class::Large => large_holds(p, left, size),
-        },
-        Status::Free(c) => match c {
-            Class::SmallMetadata => small_holds(p, left, size),
-            Class::SmallRaw => small_holds(p, left, size),
-            Class::Large => true,
-        },
+    if kind::is_small(kind) {
+        return small_holds(p, left, size);
     }
-}
-
-// An entry behind another.
-pub fn beside_holds(p: u64, left: u64, former: Status, status: Status) -> bool
-    ensures { λ r. ⌜ r ≡ besideByLeft p left former status ⌝ }
-{
-    if left == p {
-        if is_large_free(former) {
-            return !is_large_free(status);
-        }
+    if kind::is_free(kind) {
         return true;
     }
-    if !pieces::same_class(pieces::class_of(former), pieces::class_of(status)) {
-        return false;
-    }
-    if pieces::is_free(former) {
-        return !pieces::is_free(status);
+    large_holds(p, left, size)
+}
+
+// An entry behind another, at a border: not both are free large.
+fn border_holds(former: u64, kind: u64) -> bool
+    requires { ⌜ Kind former × Kind kind ⌝ }
+    ensures { λ r. ⌜ r ≡ not (largeFreeb (statusOf former) && largeFreeb (statusOf kind)) ⌝ }
+{
+    if kind::is_large_free(former) {
+        return !kind::is_large_free(kind);
     }
     true
 }
 
+// An entry behind another, inside a page: both are of one class, and not both free.
+fn inside_holds(former: u64, kind: u64) -> bool
+    requires { ⌜ Kind former × Kind kind ⌝ }
+    ensures { λ r. ⌜ r ≡ (sameClass (classOf (statusOf former)) (classOf (statusOf kind)) && not (freeb (statusOf former) && freeb (statusOf kind))) ⌝ }
+{
+    if !kind::same_class(former, kind) {
+        return false;
+    }
+    if kind::is_free(former) {
+        return !kind::is_free(kind);
+    }
+    true
+}
+
+// An entry behind another.
+fn beside_holds(p: u64, left: u64, former: u64, kind: u64) -> bool
+    requires { ⌜ Kind former × Kind kind ⌝ }
+    ensures { λ r. ⌜ r ≡ besideByLeft p left (statusOf former) (statusOf kind) ⌝ }
+{
+    if left == p {
+        return border_holds(former, kind);
+    }
+    inside_holds(former, kind)
+}
+
 // The last entry is not free large with a page or more.
-pub fn cut_holds(p: u64, status: Status, size: u64, last: bool) -> bool
-    ensures { λ r. ⌜ r ≡ cutb p status size last ⌝ }
+fn cut_holds(p: u64, kind: u64, size: u64, last: bool) -> bool
+    requires { ⌜ Kind kind ⌝ }
+    ensures { λ r. ⌜ r ≡ cutb p (statusOf kind) size last ⌝ }
 {
     if last {
-        if is_large_free(status) {
+        if kind::is_large_free(kind) {
             return size < p;
         }
     }
@@ -119,7 +121,7 @@ pub fn cut_holds(p: u64, status: Status, size: u64, last: bool) -> bool
 }
 
 // What is left of the page behind so many bytes.
-pub fn left_behind(p: u64, left: u64, size: u64) -> u64
+fn left_behind(p: u64, left: u64, size: u64) -> u64
     requires { ⌜ 0 < p ⌝ }
     ensures { λ r. ⌜ r ≡ leftBehind p left size ⌝ }
 {
@@ -133,13 +135,12 @@ pub fn left_behind(p: u64, left: u64, size: u64) -> u64
 }
 
 // The walk behind the next entry, if that keeps the rules.
-pub fn advance(p: u64, end: u64, walk: Walk, entry: Piece, last: bool) -> Step
-    requires { ⌜ ((0 < p) × (walk .at ≤ end)) × (walk .left ≡ left p (walk .at)) ⌝ }
+pub fn advance(p: u64, end: u64, walk: Walk, entry: Words, last: bool) -> Step
+    requires { ⌜ Walked p end walk × Kind (entry .kind) ⌝ }
     ensures { λ r. ⌜ r ≡ stepped p end walk entry last ⌝ }
 {
     let size = entry.size;
-    let status = entry.status;
-    let former = walk.status;
+    let kind = entry.kind;
     if entry.address != walk.at {
         return Step::Broken;
     }
@@ -149,18 +150,18 @@ pub fn advance(p: u64, end: u64, walk: Walk, entry: Piece, last: bool) -> Step
     if end - walk.at < size {
         return Step::Broken;
     }
-    if !shape_holds(p, walk.left, status, size) {
+    if !shape_holds(p, walk.left, kind, size) {
         return Step::Broken;
     }
-    if !beside_holds(p, walk.left, former, status) {
+    if !beside_holds(p, walk.left, walk.kind, kind) {
         return Step::Broken;
     }
-    if !cut_holds(p, status, size, last) {
+    if !cut_holds(p, kind, size, last) {
         return Step::Broken;
     }
     Step::On(Walk {
         at: walk.at + size,
         left: left_behind(p, walk.left, size),
-        status,
+        kind,
     })
 }

@@ -17,8 +17,8 @@ use Rattle.pages.proofs.Numbers.{split, and-left, and-right, leb-same}
 use Rattle.pages.proofs.PageLaws.{page-pos, up-ge}
 use Rattle.pages.specs.Pages.{borderb, up}
 use Rattle.pieces.proofs.WordLaws.{length-entries, entries-next, entries-none}
-use Rattle.pieces.specs.Pieces.{behind, freeb}
-use Rattle.pieces.specs.Words.{entryAt, entries}
+use Rattle.pieces.specs.Pieces.{behind, freeb, largeFreeb}
+use Rattle.pieces.specs.Words.{entryAt}
 use Rattle.pieces.specs.declared.Class.the-variants.{SmallMetadata, SmallRaw, Large}
 use Rattle.pieces.specs.declared.Class.{Class}
 use Rattle.pieces.specs.declared.Piece.{Piece}
@@ -27,7 +27,6 @@ use Rattle.space.specs.Giving.{entriesBehind, smallRoomb, largeRoomb, ro
 use Rattle.space.specs.Settle.{FoundIn, LimitFits}
 use Rattle.space.specs.declared.Space.{Space}
 use Rattle.table.proofs.TilingLaws.{nothing, entries-at, in-order, below-end}
-use Rattle.table.specs.Local.{largeFreeb}
 
 -- ---- a small piece
 

@@ -16,10 +16,10 @@ use Rattle.pages.specs.Pages.{borderb, up}
 use Rattle.pieces.specs.declared.Class.{Class}
 use Rattle.pieces.specs.declared.Class.the-variants.{SmallMetadata, SmallRaw, Large}
 use Rattle.pieces.specs.declared.Piece.{Piece}
-use Rattle.pieces.specs.Pieces.{classOf, freeb}
+use Rattle.pieces.specs.Pieces.{classOf, freeb, largeFreeb}
 use Rattle.pieces.specs.Words.{entries}
 use Rattle.table.specs.Fill.{lives}
-use Rattle.table.specs.Local.{largeFreeb, noneb}
+use Rattle.table.specs.Local.{noneb}
 use Rattle.find.specs.Find.{findLive}
 use Rattle.find.specs.declared.Found.{Found}
 use Rattle.find.specs.declared.Found.the-variants.{At, Missing}

@@ -18,7 +18,6 @@ use Rattle.pages.specs.Pages.{up}
 use Rattle.pieces.specs.declared.Class.{Class}
 use Rattle.pieces.specs.declared.Class.the-variants.{SmallMetadata, SmallRaw, Large}
 use Rattle.pieces.specs.declared.Status.the-variants.{Live}
-use Rattle.pieces.specs.declared.Piece.{Piece}
 use Rattle.pieces.specs.Pieces.{piece}
 use Rattle.table.specs.Fill.{lives}
 use Rattle.choose.specs.Spot.{spotOf, spotAddress}

@@ -47,7 +47,7 @@ fn large_room(m: u64, next: Piece) -> bool
     ensures { λ r. ⌜ r ≡ largeRoomb m (next ∷ []) ⌝ }
 {
     let status = next.status;
-    if !sound::walk::is_large_free(status) {
+    if !pieces::is_large_free(status) {
         return false;
     }
     m <= next.size

@@ -13,7 +13,7 @@ use native.Mathlib.Omega.{arith}
 use Rattle.pages.proofs.PageLaws.{decBorder, down-le, down-lt, down-border, up-border, up-ge, up-lt, down-of, up-of, down-most, up-down}
 use Rattle.pages.specs.Pages.{down, up, Border}
 use Rattle.pieces.proofs.PieceLaws.{View, small, large, view, large-small, small-large, live-free, not-free}
-use Rattle.pieces.specs.Pieces.{piece, behind, classOf, Small, IsFree}
+use Rattle.pieces.specs.Pieces.{piece, classOf, Small, IsFree}
 use Rattle.pieces.specs.declared.Class.the-variants.{Large}
 use Rattle.pieces.specs.declared.Class.{Class}
 use Rattle.pieces.specs.declared.Piece.{Piece}

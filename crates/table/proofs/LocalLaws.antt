@@ -17,8 +17,8 @@ use Rattle.pages.proofs.Numbers.{split, and-left, and-right, both, not-both}
 use Rattle.pages.proofs.PageLaws.{decBorder, border-true, true-border, false-border, page-size-true, true-page-size}
 use Rattle.pages.specs.Pages.{pageSizeb, Border, borderb, down}
 use Rattle.pieces.proofs.PieceLaws.{large-small, live-free, same-class, class-same, kind-true, true-kind}
-use Rattle.pieces.specs.Pieces.{piece, classOf, Small, metadata, raw, IsFree, is-free, freeb, sameClass, Kind, kindb}
-use Rattle.pieces.specs.Words.{entryWords, kindAt, entries, Zeros}
+use Rattle.pieces.specs.Pieces.{piece, classOf, Small, metadata, raw, IsFree, is-free, freeb, sameClass, largeFreeb, Kind, kindb}
+use Rattle.pieces.specs.Words.{entryWords, kindAt, Zeros}
 use Rattle.pieces.specs.declared.Class.the-variants.{SmallMetadata, SmallRaw, Large}
 use Rattle.pieces.specs.declared.Class.{Class}
 use Rattle.pieces.specs.declared.Piece.{Piece}
@@ -27,7 +27,7 @@ use Rattle.pieces.specs.declared.Status.{Status}
 use Rattle.table.proofs.Chain.{Entry, ChainFrom, stop, step}
 use Rattle.table.proofs.ChainLaws.{chain-le}
 use Rattle.table.specs.Fill.{Within}
-use Rattle.table.specs.Local.{tableLengthb, rangesb, kindsb, zerosb, withinb, shapeb, largeFreeb, besideb, cutb, entryb, noneb, chainb}
+use Rattle.table.specs.Local.{tableLengthb, rangesb, kindsb, zerosb, withinb, shapeb, besideb, cutb, entryb, noneb, chainb}
 use Rattle.table.specs.Sound.{largestLimit, leastCapacity, largestCapacity, capacity, TableLength, Ranges}
 
 -- ---- an entry by itself

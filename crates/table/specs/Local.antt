@@ -14,16 +14,15 @@
 -- Before the first entry all is as behind a live large one that ends at 0. Assumes nothing.
 use mathlib.Core.Bool.{Bool, true, false, cond, not, _&&_, _||_}
 use mathlib.Core.List.{List, [], _∷_}
-use Prim.Native.Nat.{ℕ, zero, suc, _+_, _*_, _%_, _≤_}
+use Prim.Native.Nat.{ℕ, zero, suc, _+_, _*_, _%_}
 use lib.Dec.{leb, ltb, eqb}
 use lib.ListN.{length, drop}
 use Rattle.pages.specs.Pages.{pageSizeb, borderb, down}
-use Rattle.pieces.specs.declared.Class.{Class}
 use Rattle.pieces.specs.declared.Class.the-variants.{SmallMetadata, SmallRaw, Large}
 use Rattle.pieces.specs.declared.Status.{Status}
 use Rattle.pieces.specs.declared.Status.the-variants.{Live, Free}
 use Rattle.pieces.specs.declared.Piece.{Piece}
-use Rattle.pieces.specs.Pieces.{classOf, smallb, freeb, sameClass, kindb}
+use Rattle.pieces.specs.Pieces.{classOf, freeb, sameClass, largeFreeb, kindb}
 use Rattle.pieces.specs.Words.{entryWords, kindAt, entries}
 use Rattle.table.specs.Sound.{largestLimit, leastCapacity, largestCapacity, capacity}
 
@@ -56,10 +55,6 @@ shapeb P (Live Large) a z = borderb P a && leb P z
 shapeb P (Free SmallMetadata) a z = withinb P a z
 shapeb P (Free SmallRaw) a z = withinb P a z
 shapeb P (Free Large) a z = true
-
-abbrev pub largeFreeb : Status → Bool
-largeFreeb (Live c) = false
-largeFreeb (Free c) = not (smallb c)
 
 unfoldable pub besideb : ℕ → Status → ℕ → Status → Bool
 besideb P s a t =

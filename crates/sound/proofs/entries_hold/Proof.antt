@@ -2,22 +2,22 @@
 -- Assumes nothing.
 use Prim.Native.Nat.{_-_, _≤_}
 use mathlib.Core.Bool.{_&&_}
-use mathlib.Core.Path.{_≡_, sym, ap, refl, _∙_}
-use native.Mathlib.Omega.{arith}
+use mathlib.Core.Path.{_≡_, sym, _∙_}
 use borrow.Author.Needs.{needs}
 use Rattle.pages.proofs.Numbers.{passes, fails}
-use Rattle.pages.specs.Pages.{left}
-use Rattle.pieces.specs.Pieces.{kindb}
+use Rattle.pieces.proofs.PieceLaws.{kind-true}
+use Rattle.pieces.specs.Pieces.{statusOf}
 use Rattle.pieces.specs.Words.{entries}
 use Rattle.pieces.specs.declared.Class.the-variants.{Large}
 use Rattle.pieces.specs.declared.Status.the-variants.{Live}
-use Rattle.sound.proofs.WalkLaws.{rest-all, rest, rest-no-kind, rest-end, turn, turn-broken, Turn}
+use Rattle.sound.proofs.WalkLaws.{walked-start, rest, rest-start, rest-end, turn, turn-broken, turn-no-kind, Turn}
+use Rattle.sound.specs.Walk.{Walked}
 use Rattle.table.specs.Local.{kindsb, chainb}
 use Rattle.sound.proofs.entries_hold.Statement.{statement}
 use Rattle.sound.proofs.entries_hold.Tie as tie
 
 abbrev Inv-loop : tie.InvT-loop
-Inv-loop page end n table walk₀ i₀ walk i = (i ≤ n) × (walk .at ≤ end) × (walk .left ≡ left page (walk .at)) × (rest page end table n i (walk .status) (walk .at) ≡ (kindsb table 0 n && chainb page end (Live Large) 0 (entries table 0 n)))
+Inv-loop page end n table walk₀ i₀ walk i = (i ≤ n) × Walked page end walk × (rest page end table n i (statusOf (walk .kind)) (walk .at) ≡ (kindsb table 0 n && chainb page end (Live Large) 0 (entries table 0 n)))
 
 abbrev μ-loop : tie.MeasureT-loop
 μ-loop page end n table walk₀ i₀ walk i = n - i
@@ -26,25 +26,22 @@ start-requires : tie.Need-start-requires Inv-loop μ-loop
 start-requires c κs = search needs
 
 loop-holds : tie.Need-loop-holds Inv-loop μ-loop
-loop-holds c = let e = c .start .ensures in (search needs, rw e (omega arith), rw e refl, rw e (rest-all _ _ _ _ _ _))
+loop-holds c = let e = c .start .ensures in (search needs, rw e (walked-start _ _ (c .before .before .pre .0)), rw e (rest-start _ _ _ _))
 
-kind-at-requires : tie.Need-kind-at-requires Inv-loop μ-loop
-kind-at-requires c κs = search needs
+words-at-requires : tie.Need-words-at-requires Inv-loop μ-loop
+words-at-requires c κs = search needs
 
 is-kind-requires : tie.Need-is-kind-requires Inv-loop μ-loop
 is-kind-requires c κs = search needs
 
 returns : tie.Need-returns Inv-loop μ-loop
-returns c = let l = c .before .before .before .before .loop in sym (rest-no-kind _ _ _ _ _ _ _ (c .before .before .before .loop-test .taken) (sym (ap kindb (c .before .before .kind-at .ensures)) ∙ fails (c .before .is-kind .ensures) (c .if1 .taken))) ∙ l .inv .3
-
-piece-at-requires : tie.Need-piece-at-requires Inv-loop μ-loop
-piece-at-requires c κs = search needs
+returns c = sym (turn-no-kind _ _ _ _ _ (c .before .before .before .before .loop .walk) _ (c .before .before .before .loop-test .taken) (c .before .before .words-at .ensures) (fails (c .before .is-kind .ensures) (c .if1 .taken))) ∙ c .before .before .before .before .loop .inv .2
 
 add-advance : tie.Need-add-advance Inv-loop μ-loop
 add-advance c = search needs
 
 advance-requires : tie.Need-advance-requires Inv-loop μ-loop
-advance-requires c κs = search needs
+advance-requires c κs = (c .before .before .before .before .loop .inv .1, kind-true _ (passes (c .before .is-kind .ensures) (c .if1 .left)))
 
 enum-known-next : tie.Need-enum-known-next Inv-loop μ-loop
 enum-known-next c = search needs
@@ -53,7 +50,7 @@ enum-told : tie.Need-enum-told Inv-loop μ-loop
 enum-told c = search needs
 
 returns-2 : tie.Need-returns-2 Inv-loop μ-loop
-returns-2 c = let l = c .before .before .before .before .before .before .before .before .loop in sym (turn-broken _ _ _ _ _ _ _ (c .before .before .before .before .before .before .before .loop-test .taken) (c .before .before .before .piece-at .ensures) (sym (c .before .before .advance .ensures) ∙ c .enum-told .given .1)) ∙ l .inv .3
+returns-2 c = sym (turn-broken _ _ _ _ _ _ _ (c .before .before .before .before .before .before .loop-test .taken) (c .before .before .before .before .before .words-at .ensures) (sym (c .before .before .advance .ensures) ∙ c .enum-told .given .1)) ∙ c .before .before .before .before .before .before .before .loop .inv .2
 
 add-i : tie.Need-add-i Inv-loop μ-loop
 add-i c = search needs
@@ -62,12 +59,12 @@ loop-less : tie.Need-loop-less Inv-loop μ-loop
 loop-less c = search needs
 
 loop-again : tie.Need-loop-again Inv-loop μ-loop
-loop-again c = let l = c .before .before .before .before .before .before .before .before .before .loop in
-    let t : Turn _ _ _ _ _ (l .walk) _ = turn _ _ _ _ _ _ _ _ (c .before .before .before .before .before .before .before .before .loop-test .taken) (sym (ap kindb (c .before .before .before .before .before .before .before .kind-at .ensures)) ∙ passes (c .before .before .before .before .before .before .is-kind .ensures) (c .before .before .before .before .before .if1 .left)) (c .before .before .before .before .piece-at .ensures) (sym (c .before .before .before .advance .ensures) ∙ c .before .next .given .1) in
-    (search needs, t .within, t .left-is, sym (t .same) ∙ l .inv .3)
+loop-again c = let l = c .before .before .before .before .before .before .before .before .loop in
+    let t : Turn _ _ _ _ _ (l .walk) _ = turn _ _ _ _ _ _ _ (c .before .before .before .before .before .before .before .loop-test .taken) (c .before .before .before .before .before .before .words-at .ensures) _ (c .before .before .before .before .before .before .before .before .before .before .before .pre .0) (passes (c .before .before .before .before .before .is-kind .ensures) (c .before .before .before .before .if1 .left)) (sym (c .before .before .before .advance .ensures) ∙ c .before .next .given .1) in
+    (search needs, t .walked, sym (t .same) ∙ l .inv .2)
 
 returns-3 : tie.Need-returns-3 Inv-loop μ-loop
-returns-3 c = let l = c .before .before .loop in sym (rest-end _ _ _ _ _ _ _ (c .before .loop-test .left)) ∙ l .inv .3
+returns-3 c = sym (rest-end _ _ _ _ _ _ _ (c .before .loop-test .left)) ∙ c .before .before .loop .inv .2
 
 pub entries-hold-spec : {M : Type 1} → statement M
 entries-hold-spec =
@@ -77,10 +74,9 @@ entries-hold-spec =
     μ-loop
     start-requires
     loop-holds
-    kind-at-requires
+    words-at-requires
     is-kind-requires
     returns
-    piece-at-requires
     add-advance
     advance-requires
     enum-known-next
