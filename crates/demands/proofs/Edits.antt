@@ -15,7 +15,7 @@ use Rattle.demands.proofs.KeepLaws.{tabled-lives}
 use Rattle.demands.proofs.Keeps.{changed}
 use Rattle.demands.proofs.ReleaseLaws.{live-among, mem-remove}
 use Rattle.demands.specs.Calls.{Call, allocates, extends, called, OnSpace, allocating, releasing, extending, shortening, livesOf, livesAfter, edited, Unnamed, IsLive}
-use Rattle.demands.specs.Demands.{accepted, Accepted, Edits, NotLive, NewBytes}
+use Rattle.demands.specs.Demands.{Accepted, Edits, NotLive, NewBytes}
 use Rattle.find.proofs.FindLaws.{found-at}
 use Rattle.find.specs.Find.{findLive}
 use Rattle.find.specs.declared.Found.the-variants.{At, Missing}

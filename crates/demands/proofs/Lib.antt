@@ -10,6 +10,8 @@ pub mod Refusals
 pub mod Keeps
 pub mod Edits
 pub mod Placing
+pub mod ConditionLaws
+pub mod Exactly
 pub mod AnyOrder
 pub mod Run
 pub mod OneResult

@@ -24,7 +24,7 @@ use Rattle.find.specs.declared.Found.the-variants.{At, Missing}
 use Rattle.find.specs.declared.Found.{Found}
 use Rattle.pages.proofs.Numbers.{both}
 use Rattle.pages.proofs.PageLaws.{page-pos}
-use Rattle.pieces.specs.Pieces.{piece, EntryIs, entry-here, entry-later}
+use Rattle.pieces.specs.Pieces.{EntryIs, entry-here, entry-later}
 use Rattle.pieces.specs.declared.Class.{Class}
 use Rattle.pieces.specs.declared.Piece.{Piece}
 use Rattle.pieces.specs.declared.Status.the-variants.{Live, Free}
@@ -46,9 +46,6 @@ pub record Among (n : Name) (ps : List Piece) : Type 0 where
   pub it : Piece
   pub among : List·Memᴰ it ps
   pub named : names n it ≡ true
-
-pub among-later : {n : Name} (x : Piece) {ps : List Piece} → Among n ps → Among n (x ∷ ps)
-among-later x h = record { it = h .it; among = List·Memᴰ·tail (h .among); named = h .named }
 
 -- a live entry is among the live pieces, and these are entries and live
 mem-lives : {es : List Piece} {x : Piece} {c : Class} → x .status ≡ Live c → List·Memᴰ x es → List·Memᴰ x (lives es)

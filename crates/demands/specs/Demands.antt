@@ -4,7 +4,8 @@
 --   Keeps           demand 2: after every call state and table are sound together, with P and M unchanged
 --   Edits           an accepted call inserts, removes or resizes one live piece, and no other changes
 --   NewBytes        a new piece, and what an extend adds, lies in bytes that were in no live piece
---   Placing         the place is the smallest fitting section, the lowest of equals; refusal 5 comes exactly when the rule has no place
+--   Placing         the place is the smallest fitting section, the lowest of equals, else the end; there is one such place
+--   Exactly         each refusal is given exactly when the table of numbered refusals says, in its order
 --   Runs            from an accepted opening on every run of calls keeps state and table sound
 --   AnyOrder        demand 3: releases in any order are all accepted, and end with the state and the words that the pieces left determine
 --   TwoOrders       the same said of two orders side by side, as crane and server see it
@@ -13,24 +14,22 @@
 --
 -- Assumes nothing.
 use Prim.Native.Nat.{ℕ, _+_, _≤_, _<_}
-use mathlib.Core.Bool.{true}
 use mathlib.Core.List.{List, List·Memᴰ, List·Permᴰ}
 use mathlib.Core.Path.{_≡_}
 use lib.ListN.{length, replicate}
 use Rattle.demands.specs.Calls.{Call, allocates, extends, livesOf, livesAfter, edited, Unnamed, called, refusalsOf, listRefusals, handedBack, OnSpace, Ran, ran, releasesOf, removeAll, SoundSpace, IsLive, Distinct}
-use Rattle.demands.specs.Places.{NoSection, PlaceIs}
+use Rattle.demands.specs.Places.{PlaceIs}
+use Rattle.demands.specs.Rows.{Row, ListRow}
 use Rattle.demands.specs.Run.{fiveSteps, twelveSteps, exchangedSteps, leftAfterFive, leftAfterTwelve, begun, playedOver, ranOver}
-use Rattle.pages.specs.Pages.{up}
 use Rattle.pieces.specs.Words.{entryAt, table}
-use Rattle.pieces.specs.declared.Class.the-variants.{Large}
+use Rattle.pieces.specs.declared.Class.{Class}
 use Rattle.pieces.specs.declared.Piece.{Piece}
-use Rattle.pieces.specs.declared.Status.the-variants.{Live}
 use Rattle.rules.specs.Edits.{Name}
-use Rattle.space.specs.Answers.{beyondLimit, notSound, noAddress, entriesOf, Outcome, stateOf}
+use Rattle.space.specs.Answers.{notSound, noAddress, entriesOf, Outcome, stateOf}
 use Rattle.space.specs.Giving.{released, extended, shortened}
 use Rattle.space.specs.Listing.{ListOutcome, listed}
 use Rattle.space.specs.Opening.{nowhere, opened, defaultPage, defaultLimit}
-use Rattle.space.specs.Placing.{typeb, classFor, allocated}
+use Rattle.space.specs.Placing.{classFor, allocated}
 use Rattle.space.specs.Said.{openSaid, allocateSaid, releaseSaid, extendSaid, shortenSaid, listSaid}
 use Rattle.space.specs.declared.Space.{Space}
 use Rattle.table.specs.Fill.{fill}
@@ -98,35 +97,18 @@ pub record NewBytes : Type 0 where
       → NotLive sp w (allocated sp t s w .address) (allocated sp t s w .address + s)
   pub extending : (sp : Space) (a z m : ℕ) (w : List ℕ) → Accepted (extends a z m) sp w → NotLive sp w (a + z) (a + z + m)
 
--- the table is sound, the type known and the size not 0
-pub record Asked (sp : Space) (t s : ℕ) (w : List ℕ) : Type 0 where
-  pub sound : SoundSpace sp w
-  pub type : typeb t ≡ true
-  pub some : 1 ≤ s
-
--- the live large piece of z bytes at a is the last of the file
-pub record LastLarge (sp : Space) (w : List ℕ) (a z : ℕ) : Type 0 where
-  pub entry : Piece
-  pub among : List·Memᴰ entry (entriesOf sp w)
-  pub live : entry .status ≡ Live Large
-  pub address : entry .address ≡ a
-  pub size : entry .size ≡ z
-  pub last : a + z ≡ sp .end
-
 pub record Placing : Type 0 where
   pub place : (sp : Space) (t s : ℕ) (w : List ℕ) → Accepted (allocates t s) sp w
       → PlaceIs (sp .page) (sp .end) (classFor (sp .page) t s) s (entriesOf sp w) (allocated sp t s w .address)
-  -- refusal 5: the only remaining place is at E, and E, grown by the fewest whole pages that hold s, would pass M
-  pub five : (sp : Space) (t s : ℕ) (w : List ℕ) → Asked sp t s w → called (allocates t s) sp w .refusal ≡ beyondLimit
-      → NoSection (sp .page) (classFor (sp .page) t s) s (entriesOf sp w) × (sp .limit < up (sp .page) (sp .end + s))
-  pub five-only : (sp : Space) (t s : ℕ) (w : List ℕ) → Asked sp t s w
-      → NoSection (sp .page) (classFor (sp .page) t s) s (entriesOf sp w) → sp .limit < up (sp .page) (sp .end + s)
-      → called (allocates t s) sp w .refusal ≡ beyondLimit
-  -- and of an extend: a large piece ends at E, and E, grown by the fewest whole pages that hold m, would pass M
-  pub extend-five : (sp : Space) (a z m : ℕ) (w : List ℕ) → SoundSpace sp w → called (extends a z m) sp w .refusal ≡ beyondLimit
-      → LastLarge sp w a z × (sp .limit < up (sp .page) (a + z + m))
-  pub extend-five-only : (sp : Space) (a z m : ℕ) (w : List ℕ) → SoundSpace sp w → 1 ≤ m → LastLarge sp w a z
-      → sp .limit < up (sp .page) (a + z + m) → called (extends a z m) sp w .refusal ≡ beyondLimit
+  pub one : (sp : Space) (w : List ℕ) → SoundSpace sp w → (k : Class) (s b d : ℕ) → PlaceIs (sp .page) (sp .end) k s (entriesOf sp w) b
+      → PlaceIs (sp .page) (sp .end) k s (entriesOf sp w) d → b ≡ d
+
+pub record Exactly : Type 0 where
+  pub calls : (c : Call) (sp : Space) (w : List ℕ) → Row c sp w (called c sp w .refusal)
+  pub listing : (sp : Space) (m : ℕ) (w v : List ℕ) → ListRow sp m w v (listed sp m w v .refusal)
+  -- and a row allows one number
+  pub one : (c : Call) (sp : Space) (w : List ℕ) (r r' : ℕ) → Row c sp w r → Row c sp w r' → r ≡ r'
+  pub one-listing : (sp : Space) (m : ℕ) (w v : List ℕ) (r r' : ℕ) → ListRow sp m w v r → ListRow sp m w v r' → r ≡ r'
 
 abbrev pub Runs : Type 0
 Runs =

@@ -1,0 +1,262 @@
+-- The numbered refusals: each is given exactly when document 01 says, in its order.
+--
+--   first, first-not        one row more: a test that refuses where its condition holds, or where it does not
+--   settled-row             the last row of a change: 6, or accepted
+--   sound-row, zero-row, found-row     the rows that calls share
+--   one-number              a row allows one number
+--   exactly                 the statement
+--
+-- Assumes nothing. What each test says is in ConditionLaws.antt.
+use Prim.Native.Nat.{ℕ, _+_, _-_, _*_, _<_}
+use mathlib.Core.Bool.{Bool, true, false, cond, not, _||_}
+use mathlib.Core.List.{List}
+use mathlib.Core.Path.{_≡_, refl, sym, ap, _∙_}
+use lib.Dec.{eqb}
+use lib.ListN.{length}
+use borrow.Author.Tests.{lt-ltb, eq-eqb, ltb-true, eqb-true}
+use Rattle.choose.proofs.BestLaws.{entry-among}
+use Rattle.demands.proofs.ConditionLaws.{opening-ranges, sound-test, type-test, test-type, manager-test, test-manager, zero-test, test-zero, spot, beyond-end, end-beyond, there, there-is, placing-it, too-many, room, has-room, the-room, has-left, the-left, Beyond, grows-last, last-grows}
+use Rattle.demands.proofs.KeepLaws.{sound-true}
+use Rattle.demands.proofs.PlaceRule.{spot-is}
+use Rattle.demands.proofs.ReleaseLaws.{entry-is}
+use Rattle.demands.specs.Calls.{Call, opens, allocates, releases, extends, shortens, called, SoundSpace, IsLive, livesOf}
+use Rattle.demands.specs.Demands.{Exactly}
+use Rattle.demands.specs.Rows.{Given, given, passed-on, UnknownType, UnknownManager, ZeroAsked, HasRoom, HasLeft, NoPlace, LastLarge, TooMany, FullThere, Row, ListRow}
+use Rattle.find.proofs.FindLaws.{found-missing, found-at}
+use Rattle.find.specs.Find.{FoundAt, findLive}
+use Rattle.find.specs.declared.Found.the-variants.{At, Missing}
+use Rattle.find.specs.declared.Found.{Found}
+use Rattle.pages.proofs.Numbers.{not-both}
+use Rattle.pages.specs.Pages.{up}
+use Rattle.pieces.specs.Pieces.{classOf}
+use Rattle.pieces.specs.declared.Class.{Class}
+use Rattle.pieces.specs.declared.Piece.{Piece}
+use Rattle.rules.specs.Edits.{remove, resize}
+use Rattle.space.proofs.OpenLaws.{opened-refused, opened-done}
+use Rattle.space.specs.Answers.{notSound, unknownCode, zeroAsked, beyondLimit, tableFull, notLive, noRoomBehind, tooLittleLeft, sliceTooShort, soundb, entriesOf, Outcome, refusing, settled}
+use Rattle.space.specs.Giving.{nameOf, remainsb, releasedAt, released, extendedAt, extended, shortenedAt, shortened}
+use Rattle.space.specs.Listing.{ListOutcome, classOfManager, sections, pairWords, refusingList, listedAs, listed}
+use Rattle.space.specs.Opening.{openingb, opened}
+use Rattle.space.specs.Placing.{classFor, Placed, refusingPlace, placedAt, placed, allocated}
+use Rattle.space.specs.declared.Space.{Space}
+use Rattle.table.proofs.LocalLaws.{ranges-true, true-ranges}
+use Rattle.table.specs.Fill.{fill}
+use Rattle.table.specs.Sound.{capacity}
+
+-- ---- one row more
+
+module _ {X : Type 0} (number : X → ℕ) (k : ℕ) (a b : X) (is : number a ≡ k) (Rest : ℕ → Type 0) where
+  first : {W : Type 0} (t : Bool) → (t ≡ true → W) → (W → t ≡ true) → (t ≡ false → Rest (number b))
+      → Given (number (cond t a b)) k W (Rest (number (cond t a b)))
+  first true f g h = given (f refl) is
+  first false f g h = passed-on (λ v. not-both (g v) refl) (h refl)
+
+  first-not : {W : Type 0} (t : Bool) → (t ≡ true → W) → (W → t ≡ true) → (W → Rest (number b))
+      → Given (number (cond (not t) a b)) k (W → ⊥) (Rest (number (cond (not t) a b)))
+  first-not true f g h = passed-on (λ n. n (f refl)) (h (f refl))
+  first-not false f g h = given (λ v. not-both (g v) refl) is
+
+-- ---- the rows that calls share
+
+abbrev refusalOf : Outcome → ℕ
+refusalOf o = o .refusal
+
+module _ (sp : Space) (w : List ℕ) where
+  settled-row : (ps : List Piece) → Given (settled sp w ps .refusal) tableFull (TooMany sp w ps) (settled sp w ps .refusal ≡ 0)
+  unfolding settled refusing
+  settled-row ps =
+      first refusalOf tableFull _ _ refl (λ r. r ≡ 0) _ (ltb-true (capacity (length w)) (length (fill (sp .page) ps)))
+      (lt-ltb (capacity (length w)) (length (fill (sp .page) ps))) (λ e. refl)
+
+  sound-row : (o : Outcome) (Rest : ℕ → Type 0) → (SoundSpace sp w → Rest (o .refusal))
+      → Given (refusing sp w (not (soundb sp w)) notSound o .refusal) notSound (SoundSpace sp w → ⊥) (Rest (refusing sp w (not (soundb sp w)) notSound o .refusal))
+  unfolding refusing
+  sound-row o Rest h = first-not refusalOf notSound _ o refl Rest (soundb sp w) (sound-test sp w) (sound-true sp w) h
+
+  zero-row : (z m : ℕ) (o : Outcome) (Rest : ℕ → Type 0) → Rest (o .refusal)
+      → Given (refusing sp w (eqb z 0 || eqb m 0) zeroAsked o .refusal) zeroAsked (ZeroAsked z m) (Rest (refusing sp w (eqb z 0 || eqb m 0) zeroAsked o .refusal))
+  unfolding refusing
+  zero-row z m o Rest h = first refusalOf zeroAsked _ o refl Rest _ (zero-test z m) (test-zero z m) (λ e. h)
+
+  found-row : (a z : ℕ) (at : Found → Outcome) (Rest : ℕ → Type 0) → at Missing .refusal ≡ notLive
+      → ((i : ℕ) (x : Piece) → FoundAt a z (entriesOf sp w) i x → Rest (at (At i x) .refusal)) → (f : Found) → findLive a z 0 (entriesOf sp w) ≡ f
+      → Given (at f .refusal) notLive (IsLive (entriesOf sp w) (nameOf a z) → ⊥) (Rest (at f .refusal))
+  found-row a z at Rest e h Missing q =
+      given
+      (λ l. let i = entry-is (l .among) in found-missing a z (entriesOf sp w) (sym q) (i .0) (l .entry) (i .1) (l .named)) e
+  found-row a z at Rest e h (At i x) q =
+      let f = found-at a z (entriesOf sp w) i x (sym q) in
+      passed-on (λ n. n (record { entry = x; among = entry-among (f .entry); named = f .named })) (h i x f)
+
+-- ---- an extend and a shorten, behind the name
+
+module _ (sp : Space) (w : List ℕ) (s : SoundSpace sp w) (a z i : ℕ) (x : Piece) (f : FoundAt a z (entriesOf sp w) i x) where
+  abbrev SettledRow : List Piece → ℕ → Type 0
+  SettledRow ps r = Given r tableFull (TooMany sp w ps) (r ≡ 0)
+
+  abbrev longer : ℕ → List Piece
+  longer m = resize (nameOf a z) (z + m) (livesOf sp w)
+
+  extend-row : (m r : ℕ) → r ≡ extendedAt sp a z m w (At i x) .refusal
+      → Given r noRoomBehind (HasRoom sp w a z m → ⊥) (Given r beyondLimit (Beyond sp w s a z i x f m) (SettledRow (longer m) r))
+  unfolding extendedAt refusing
+  extend-row m r q =
+      rw q
+      (first-not refusalOf noRoomBehind _ _ refl (λ r. Given r beyondLimit (Beyond sp w s a z i x f m) (SettledRow (longer m) r)) (room sp w s a z i x f m (classOf (x .status)))
+      (has-room sp w s a z i x f m) (the-room sp w s a z i x f m)
+      (λ h. first refusalOf beyondLimit _ _ refl (SettledRow (longer m)) _ (grows-last sp w s a z i x f m (the-room sp w s a z i x f m h)) (last-grows sp w s a z i x f m)
+      (λ e. settled-row sp w (longer m))))
+
+  abbrev shorter : ℕ → List Piece
+  shorter k = resize (nameOf a z) (z - k) (livesOf sp w)
+
+  shorten-row : (k r : ℕ) → r ≡ shortenedAt sp a z k w (At i x) .refusal
+      → Given r tooLittleLeft (HasLeft sp w a z k → ⊥) (SettledRow (shorter k) r)
+  unfolding shortenedAt refusing
+  shorten-row k r q =
+      rw q
+      (first-not refusalOf tooLittleLeft _ _ refl (SettledRow (shorter k)) (remainsb (sp .page) (classOf (x .status)) z k) (has-left sp w s a z i x f k) (the-left sp w s a z i x f k)
+      (λ h. settled-row sp w (shorter k)))
+
+-- ---- each call
+
+module _ (sp : Space) (w : List ℕ) where
+  abbrev NotNamed : ℕ → ℕ → Type 0
+  NotNamed a z = IsLive (entriesOf sp w) (nameOf a z) → ⊥
+
+  released-row : (a z : ℕ) → Row (releases a z) sp w (released sp a z w .refusal)
+  unfolding released releasedAt
+  released-row a z =
+      let ps = remove (nameOf a z) (livesOf sp w) in
+      sound-row sp w _ (λ r. Given r notLive (NotNamed a z) (Given r tableFull (TooMany sp w ps) (r ≡ 0)))
+      (λ s. found-row sp w a z (releasedAt sp a z w) (λ r. Given r tableFull (TooMany sp w ps) (r ≡ 0)) refl (λ i x f. settled-row sp w ps)
+      (findLive a z 0 (entriesOf sp w)) refl)
+
+  extended-row : (a z m : ℕ) → Row (extends a z m) sp w (extended sp a z m w .refusal)
+  unfolding extended extendedAt
+  extended-row a z m =
+      sound-row sp w _ (λ r. Given r zeroAsked (ZeroAsked z m) (Named r))
+      (λ s. zero-row sp w z m _ Named
+      (found-row sp w a z (extendedAt sp a z m w) Behind refl (λ i x f. extend-row sp w s a z i x f m _ refl) (findLive a z 0 (entriesOf sp w)) refl))
+    where
+      Behind : ℕ → Type 0
+      Behind r =
+          Given r noRoomBehind (HasRoom sp w a z m → ⊥)
+          (Given r beyondLimit (LastLarge sp w a z × (sp .limit < up (sp .page) (a + z + m)))
+          (Given r tableFull (TooMany sp w (resize (nameOf a z) (z + m) (livesOf sp w))) (r ≡ 0)))
+
+      Named : ℕ → Type 0
+      Named r = Given r notLive (NotNamed a z) (Behind r)
+
+  shortened-row : (a z k : ℕ) → Row (shortens a z k) sp w (shortened sp a z k w .refusal)
+  unfolding shortened shortenedAt
+  shortened-row a z k =
+      sound-row sp w _ (λ r. Given r zeroAsked (ZeroAsked z k) (Named r))
+      (λ s. zero-row sp w z k _ Named
+      (found-row sp w a z (shortenedAt sp a z k w) Left refl (λ i x f. shorten-row sp w s a z i x f k _ refl) (findLive a z 0 (entriesOf sp w)) refl))
+    where
+      Left : ℕ → Type 0
+      Left r =
+          Given r tooLittleLeft (HasLeft sp w a z k → ⊥)
+          (Given r tableFull (TooMany sp w (resize (nameOf a z) (z - k) (livesOf sp w))) (r ≡ 0))
+
+      Named : ℕ → Type 0
+      Named r = Given r notLive (NotNamed a z) (Left r)
+
+-- ---- an allocation
+
+abbrev placeRefusal : Placed → ℕ
+placeRefusal p = p .outcome .refusal
+
+module _ (sp : Space) (w : List ℕ) (s : SoundSpace sp w) (c : Class) (n : ℕ) where
+  full-row : Given (settled sp w (placing-it sp w s c n (there sp w s c n)) .refusal) tableFull (FullThere sp w c n) (settled sp w (placing-it sp w s c n (there sp w s c n)) .refusal ≡ 0)
+  full-row = go (settled-row sp w (placing-it sp w s c n (there sp w s c n)))
+    where
+      go : {r : ℕ} → Given r tableFull (TooMany sp w (placing-it sp w s c n (there sp w s c n))) (r ≡ 0) → Given r tableFull (FullThere sp w c n) (r ≡ 0)
+      go (given h e) = given (record { place = there sp w s c n; is = there-is sp w s c n; full = h }) e
+      go (passed-on h e) = passed-on (λ l. h (too-many sp w s c n l)) e
+
+  placed-row : Given (placed sp c n w (spot sp w s c n) .outcome .refusal) beyondLimit (NoPlace sp w c n)
+      (Given (placed sp c n w (spot sp w s c n) .outcome .refusal) tableFull (FullThere sp w c n) (placed sp c n w (spot sp w s c n) .outcome .refusal ≡ 0))
+  unfolding placed refusingPlace placedAt
+  placed-row =
+      first placeRefusal beyondLimit _ _ refl (λ r. Given r tableFull (FullThere sp w c n) (r ≡ 0)) _ (beyond-end sp w s c n _ (spot-is sp w s c n))
+      (end-beyond sp w s c n _ (spot-is sp w s c n)) (λ e. full-row)
+
+allocated-row : (sp : Space) (w : List ℕ) (t n : ℕ) → Row (allocates t n) sp w (allocated sp t n w .outcome .refusal)
+unfolding allocated refusingPlace
+allocated-row sp w t n =
+    first-not placeRefusal notSound _ _ refl Typed (soundb sp w) (sound-test sp w) (sound-true sp w)
+    (λ s. first placeRefusal unknownCode _ _ refl Sized _ (type-test t) (test-type t)
+    (λ e. first placeRefusal zeroAsked _ _ refl Placing _ (eqb-true n 0) (eq-eqb n 0) (λ f. placed-row sp w s (classFor (sp .page) t n) n)))
+  where
+    Placing : ℕ → Type 0
+    Placing r =
+        Given r beyondLimit (NoPlace sp w (classFor (sp .page) t n) n) (Given r tableFull (FullThere sp w (classFor (sp .page) t n) n) (r ≡ 0))
+
+    Sized : ℕ → Type 0
+    Sized r = Given r zeroAsked (n ≡ 0) (Placing r)
+
+    Typed : ℕ → Type 0
+    Typed r = Given r unknownCode (UnknownType t) (Sized r)
+
+-- ---- an opening
+
+opened-row : (P M : ℕ) (sp : Space) (w : List ℕ) → Row (opens P M) sp w (opened P M w .refusal)
+opened-row P M sp w = go (openingb P M (length w)) refl
+  where
+    go : (t : Bool) → openingb P M (length w) ≡ t → Row (opens P M) sp w (opened P M w .refusal)
+    go true e =
+        passed-on (λ n. n (ranges-true P M 0 0 (length w) (opening-ranges P M (length w) ∙ e))) (ap refusalOf (opened-done P M w e))
+    go false e =
+        given (λ r. not-both (true-ranges P M 0 0 (length w) r) (opening-ranges P M (length w) ∙ e)) (ap refusalOf (opened-refused P M w e))
+
+-- ---- a listing
+
+listed-row : (sp : Space) (m : ℕ) (w v : List ℕ) → ListRow sp m w v (listed sp m w v .refusal)
+unfolding listed listedAs refusingList
+listed-row sp m w v =
+    first-not number notSound _ _ refl Known (soundb sp w) (sound-test sp w) (sound-true sp w)
+    (λ s. first number unknownCode _ _ refl Long _ (manager-test m) (test-manager m)
+    (λ e. first number sliceTooShort _ _ refl (λ r. r ≡ 0) _ (ltb-true (length v) words) (lt-ltb (length v) words) (λ f. refl)))
+  where
+    number : ListOutcome → ℕ
+    number o = o .refusal
+
+    words : ℕ
+    words = length (sections (classOfManager m) (entriesOf sp w)) * pairWords
+
+    Long : ℕ → Type 0
+    Long r = Given r sliceTooShort (length v < words) (r ≡ 0)
+
+    Known : ℕ → Type 0
+    Known r = Given r unknownCode (UnknownManager m) (Long r)
+
+calls-row : (c : Call) (sp : Space) (w : List ℕ) → Row c sp w (called c sp w .refusal)
+unfolding called
+calls-row (opens P M) sp w = opened-row P M sp w
+calls-row (allocates t n) sp w = allocated-row sp w t n
+calls-row (releases a z) sp w = released-row sp w a z
+calls-row (extends a z m) sp w = extended-row sp w a z m
+calls-row (shortens a z k) sp w = shortened-row sp w a z k
+
+-- ---- a row allows one number
+
+same : {r r' k : ℕ} {W R R' : Type 0} → (R → R' → r ≡ r') → Given r k W R → Given r' k W R' → r ≡ r'
+same f (given h e) (given g d) = e ∙ sym d
+same f (given h e) (passed-on g d) = absurd (g h)
+same f (passed-on h e) (given g d) = absurd (h g)
+same f (passed-on h e) (passed-on g d) = f e d
+
+zero-both : {r r' : ℕ} → r ≡ 0 → r' ≡ 0 → r ≡ r'
+zero-both e d = e ∙ sym d
+
+one-number : (c : Call) (sp : Space) (w : List ℕ) (r r' : ℕ) → Row c sp w r → Row c sp w r' → r ≡ r'
+one-number (opens P M) sp w r r' = same zero-both
+one-number (allocates t n) sp w r r' = same (same (same (same (same zero-both))))
+one-number (releases a z) sp w r r' = same (same (same zero-both))
+one-number (extends a z m) sp w r r' = same (same (same (same (same (same zero-both)))))
+one-number (shortens a z k) sp w r r' = same (same (same (same (same zero-both))))
+
+pub exactly : Exactly
+exactly = record { calls = calls-row; listing = listed-row; one = one-number; one-listing = λ sp m w v r r'. same (same (same zero-both)) }

@@ -1,0 +1,130 @@
+-- The numbered refusals, as document 01 has them: of each call its numbers in their order, and when each is given.
+--
+--   Given r k when rest        the number r of an answer is k if `when` holds, and else the rest decides
+--   UnknownType t, UnknownManager m     the code is none of the known ones
+--   ZeroAsked z m              the size or the change is 0
+--   RoomBehind sp w a z m c    the stated room for m bytes behind a piece of class c that has z bytes at a
+--   HasRoom sp w a z m         a live piece of z bytes at a has that room
+--   Remains P c z k            enough remains of a piece of class c and z bytes without k
+--   HasLeft sp w a z k         a live piece of z bytes at a has that much
+--   LastLarge sp w a z         a live large piece of z bytes at a is the last of the file
+--   TooMany sp w ps            the table that the live pieces ps determine needs more than C entries
+--   FullThere sp w t s         so it is with the new piece at the rule's place
+--   Row c sp w r               the row of the call c: its answer has the number r
+--   ListRow sp m w v r         the row of a listing
+--
+-- Assumes nothing.
+use Prim.Native.Nat.{ℕ, _+_, _-_, _*_, _≤_, _<_}
+use mathlib.Core.List.{List, List·Memᴰ}
+use mathlib.Core.Path.{_≡_}
+use lib.ListN.{length}
+use Rattle.demands.specs.Calls.{Call, opens, allocates, releases, extends, shortens, SoundSpace, IsLive, livesOf}
+use Rattle.demands.specs.Places.{NoSection, PlaceIs}
+use Rattle.pages.specs.Pages.{Border, up}
+use Rattle.pieces.specs.Pieces.{piece, Small, IsFree}
+use Rattle.pieces.specs.declared.Class.the-variants.{Large}
+use Rattle.pieces.specs.declared.Class.{Class}
+use Rattle.pieces.specs.declared.Piece.{Piece}
+use Rattle.pieces.specs.declared.Status.the-variants.{Live, Free}
+use Rattle.rules.specs.Edits.{insert, remove, resize}
+use Rattle.space.specs.Answers.{outOfRange, notSound, unknownCode, zeroAsked, beyondLimit, tableFull, notLive, noRoomBehind, tooLittleLeft, sliceTooShort, entriesOf}
+use Rattle.space.specs.Giving.{nameOf}
+use Rattle.space.specs.Listing.{classOfManager, sections, pairWords, largeCode}
+use Rattle.space.specs.Placing.{metadataCode, rawCode, classFor}
+use Rattle.space.specs.declared.Space.{Space}
+use Rattle.table.specs.Fill.{fill}
+use Rattle.table.specs.Sound.{capacity, Ranges}
+
+pub data Given (r k : ℕ) (when rest : Type 0) : Type 0 where
+  given : when → r ≡ k → Given r k when rest
+  passed-on : (when → ⊥) → rest → Given r k when rest
+
+-- ---- when each is given
+
+-- 3
+abbrev pub UnknownType : ℕ → Type 0
+UnknownType t = (t ≡ metadataCode → ⊥) × (t ≡ rawCode → ⊥)
+
+abbrev pub UnknownManager : ℕ → Type 0
+UnknownManager m = (m ≡ metadataCode → ⊥) × (m ≡ rawCode → ⊥) × (m ≡ largeCode → ⊥)
+
+-- 4
+pub data ZeroAsked (z m : ℕ) : Type 0 where
+  no-size : z ≡ 0 → ZeroAsked z m
+  no-change : m ≡ 0 → ZeroAsked z m
+
+-- 8: a free entry directly behind it, for a small piece in the page, with at least m bytes, and a small piece stays below P; a large one
+-- at the file's end has room for any m
+pub data RoomBehind (sp : Space) (w : List ℕ) (a z m : ℕ) : Class → Type 0 where
+  small-room : {c : Class} {y : Piece} → Small c → List·Memᴰ y (entriesOf sp w) → y .address ≡ a + z → IsFree (y .status)
+      → (Border (sp .page) (a + z) → ⊥) → m ≤ y .size → z + m < sp .page → RoomBehind sp w a z m c
+  large-room : {y : Piece} → List·Memᴰ y (entriesOf sp w) → y .address ≡ a + z → y .status ≡ Free Large → m ≤ y .size → RoomBehind sp w a z m Large
+  room-at-end : a + z ≡ sp .end → RoomBehind sp w a z m Large
+
+pub record HasRoom (sp : Space) (w : List ℕ) (a z m : ℕ) : Type 0 where
+  pub live : IsLive (entriesOf sp w) (nameOf a z)
+  pub room : RoomBehind sp w a z m (live .named .class)
+
+-- 9: at least 1 byte of a small piece, at least P bytes of a large one
+pub record Remains (P : ℕ) (c : Class) (z k : ℕ) : Type 0 where
+  pub small : Small c → 1 + k ≤ z
+  pub large : c ≡ Large → P + k ≤ z
+
+pub record HasLeft (sp : Space) (w : List ℕ) (a z k : ℕ) : Type 0 where
+  pub live : IsLive (entriesOf sp w) (nameOf a z)
+  pub left : Remains (sp .page) (live .named .class) z k
+
+-- 5: the rule's only remaining place is at E, and E, grown by the fewest whole pages that hold the bytes, would pass M
+abbrev pub NoPlace : Space → List ℕ → Class → ℕ → Type 0
+NoPlace sp w c s = NoSection (sp .page) c s (entriesOf sp w) × (sp .limit < up (sp .page) (sp .end + s))
+
+pub record LastLarge (sp : Space) (w : List ℕ) (a z : ℕ) : Type 0 where
+  pub entry : Piece
+  pub among : List·Memᴰ entry (entriesOf sp w)
+  pub live : entry .status ≡ Live Large
+  pub address : entry .address ≡ a
+  pub size : entry .size ≡ z
+  pub last : a + z ≡ sp .end
+
+-- 6
+abbrev pub TooMany : Space → List ℕ → List Piece → Type 0
+TooMany sp w ps = capacity (length w) < length (fill (sp .page) ps)
+
+pub record FullThere (sp : Space) (w : List ℕ) (c : Class) (s : ℕ) : Type 0 where
+  pub place : ℕ
+  pub is : PlaceIs (sp .page) (sp .end) c s (entriesOf sp w) place
+  pub full : TooMany sp w (insert (piece place s (Live c)) (livesOf sp w))
+
+-- ---- the rows
+
+abbrev pub Row : Call → Space → List ℕ → ℕ → Type 0
+Row (opens P M) sp w r = Given r outOfRange (Ranges P M 0 0 (length w) → ⊥) (r ≡ 0)
+Row (allocates t s) sp w r =
+    Given r notSound (SoundSpace sp w → ⊥)
+    (Given r unknownCode (UnknownType t)
+    (Given r zeroAsked (s ≡ 0)
+    (Given r beyondLimit (NoPlace sp w (classFor (sp .page) t s) s)
+    (Given r tableFull (FullThere sp w (classFor (sp .page) t s) s) (r ≡ 0)))))
+Row (releases a z) sp w r =
+    Given r notSound (SoundSpace sp w → ⊥)
+    (Given r notLive (IsLive (entriesOf sp w) (nameOf a z) → ⊥)
+    (Given r tableFull (TooMany sp w (remove (nameOf a z) (livesOf sp w))) (r ≡ 0)))
+Row (extends a z m) sp w r =
+    Given r notSound (SoundSpace sp w → ⊥)
+    (Given r zeroAsked (ZeroAsked z m)
+    (Given r notLive (IsLive (entriesOf sp w) (nameOf a z) → ⊥)
+    (Given r noRoomBehind (HasRoom sp w a z m → ⊥)
+    (Given r beyondLimit (LastLarge sp w a z × (sp .limit < up (sp .page) (a + z + m)))
+    (Given r tableFull (TooMany sp w (resize (nameOf a z) (z + m) (livesOf sp w))) (r ≡ 0))))))
+Row (shortens a z k) sp w r =
+    Given r notSound (SoundSpace sp w → ⊥)
+    (Given r zeroAsked (ZeroAsked z k)
+    (Given r notLive (IsLive (entriesOf sp w) (nameOf a z) → ⊥)
+    (Given r tooLittleLeft (HasLeft sp w a z k → ⊥)
+    (Given r tableFull (TooMany sp w (resize (nameOf a z) (z - k) (livesOf sp w))) (r ≡ 0)))))
+
+abbrev pub ListRow : Space → ℕ → List ℕ → List ℕ → ℕ → Type 0
+ListRow sp m w v r =
+    Given r notSound (SoundSpace sp w → ⊥)
+    (Given r unknownCode (UnknownManager m)
+    (Given r sliceTooShort (length v < length (sections (classOfManager m) (entriesOf sp w)) * pairWords) (r ≡ 0)))
