@@ -3,7 +3,7 @@
 //!
 //!   script     a script from a seed: calls on a space, on a wide table, on messages, or openings at the edges of their ranges
 //!
-//! Every refused call, and one accepted call in four, is followed by `show words`.
+//! Every call on a space is followed by `show words`, but for those that fill a wide table.
 
 use crate::draw::Draw;
 use crate::message::{self, Fields, UNDEFINED};
@@ -64,12 +64,10 @@ impl Author<'_> {
         answer
     }
 
-    /// Adds a call, and a look at every word where one is due.
+    /// Adds a call on a space, and a look at every word.
     fn call(&mut self, line: String) {
-        let answer = self.say(line);
-        if answer.starts_with("refused") || self.draw.once_in(4) {
-            self.say("show words".to_string());
-        }
+        self.say(line);
+        self.say("show words".to_string());
     }
 
     // Sorts of scripts.
@@ -87,12 +85,12 @@ impl Author<'_> {
         }
     }
 
-    /// A table with many entries, mostly small ones, up to the largest legal one.
+    /// A table with many entries, mostly small ones, up to the largest legal one; all are taken.
     fn wide_table(&mut self) {
         let page = self.draw.pick(&[512, 1_000]);
         let entries = self.draw.pick(&[64, 100, 341, 1_024]);
         self.say(format!("open {page} {LARGEST_LIMIT} {entries}"));
-        for _ in 0..entries / 2 {
+        while self.state().count < entries {
             let (kind, size) = (1 + self.draw.below(2), 1 + self.draw.below(page));
             self.say(format!("allocate {kind} {size}"));
         }
@@ -165,7 +163,12 @@ impl Author<'_> {
     }
 
     fn extend(&mut self) {
-        let (address, size) = self.name();
+        // A piece that ends at the end of the file is the one that can make it grow.
+        let last = self.model().entries().last().copied().filter(Entry::is_live);
+        let (address, size) = match last {
+            Some(piece) if self.draw.once_in(3) => (piece.address, piece.size),
+            _ => self.name(),
+        };
         let by = self.extension(address, size);
         self.call(format!("extend {address} {size} {by}"));
     }
@@ -236,7 +239,8 @@ impl Author<'_> {
             7 => u64::MAX - self.draw.below(3),
             8 => u64::MAX - self.draw.below(2 * page),
             9 => self.near(1 << 62),
-            10 | 11 => page + self.draw.below(3 * page),
+            10 => page * (1 + self.draw.below(4)),
+            11 => page + self.draw.below(3 * page),
             12..=14 => 1 + self.draw.below(16),
             _ => 1 + self.draw.below(page),
         }
@@ -514,16 +518,6 @@ fn join(entries: &mut Vec<Entry>, i: usize) {
     }
 }
 
-fn write_line(f: &Fields, room: u64) -> String {
-    format!(
-        "write {} {} {} {} {} {} {} {} {room}",
-        f.strategy,
-        f.persist,
-        f.threshold,
-        f.page,
-        f.page_end,
-        f.eoa,
-        joined(&f.small),
-        joined(&f.large)
-    )
+fn write_line(fields: &Fields, room: u64) -> String {
+    format!("write {} {room}", joined(&fields.numbers()))
 }

@@ -1,11 +1,11 @@
 //! Scripts played through a program, and compared with the model.
 //!
 //!   Program      the command under test
-//!   Tally        what was compared
 //!   compare      the first difference between the program and the model over a stream of scripts, if there is one
 //!   shrink       the shortest script found that still shows a difference
 
 use crate::script::Machine;
+use crate::tally::{Met, Tally};
 use std::io::{BufRead, BufReader, Write};
 use std::process::{Command, Stdio};
 use std::sync::mpsc;
@@ -22,18 +22,6 @@ pub const NO_ANSWER: &str = "(no answer)";
 
 pub struct Program {
     pub command: Vec<String>,
-}
-
-#[derive(Clone, Copy, Debug, Default)]
-pub struct Tally {
-    /// Lines that are a call on a space, a listing or a message, with a right count of words or not.
-    pub calls: u64,
-    /// Answers of any sort.
-    pub answers: u64,
-    /// Words of tables seen by `show words`.
-    pub words: u64,
-    /// Calls refused with each number.
-    pub refused: [u64; 13],
 }
 
 /// Line `line` of a stream is answered otherwise than it must be.
@@ -82,28 +70,6 @@ impl Program {
     }
 }
 
-/// The number of the refusal that an answer says.
-fn refusal_in(answer: &str) -> Option<usize> {
-    let number = answer.strip_prefix("refused ")?;
-    number.split(';').next()?.parse().ok()
-}
-
-impl Tally {
-    fn count(&mut self, line: &str, answer: &str) {
-        let call = line.split_ascii_whitespace().next().unwrap_or("");
-        self.answers += 1;
-        if !["show", "state", "words"].contains(&call) {
-            self.calls += 1;
-        }
-        if let Some(number) = refusal_in(answer) {
-            self.refused[number] += 1;
-        }
-        if let Some(words) = answer.strip_prefix("words:") {
-            self.words += words.split_ascii_whitespace().count() as u64;
-        }
-    }
-}
-
 /// The first line that is answered otherwise than `expected` says; lines for which it says nothing have no answer.
 pub fn first_difference(program: &Program, lines: &[String], expected: &[Option<String>]) -> Option<Difference> {
     let mut found = program.answers(lines).into_iter();
@@ -117,19 +83,19 @@ pub fn first_difference(program: &Program, lines: &[String], expected: &[Option<
     found.next().map(|found| Difference { line: lines.len(), expected: NO_ANSWER.to_string(), found })
 }
 
-/// The model's answers to a stream of lines.
-fn expected(lines: &[String]) -> Vec<Option<String>> {
+/// The model's answers to a stream of lines, and what each line met.
+fn expected(lines: &[String]) -> (Vec<Option<String>>, Vec<Met>) {
     let mut machine = Machine::default();
-    lines.iter().map(|line| machine.answer(line)).collect()
+    lines.iter().map(|line| (machine.answer(line), Met::after(line, &machine.model))).unzip()
 }
 
 pub fn compare(program: &Program, lines: &[String], tally: &mut Tally) -> Option<Difference> {
-    let expected = expected(lines);
+    let (expected, met) = expected(lines);
     let difference = first_difference(program, lines, &expected);
     let compared = difference.as_ref().map_or(lines.len(), |d| d.line);
-    for (line, answer) in lines.iter().zip(&expected).take(compared) {
+    for ((line, answer), met) in lines.iter().zip(&expected).zip(&met).take(compared) {
         if let Some(answer) = answer {
-            tally.count(line, answer);
+            tally.count(line, answer, met);
         }
     }
     difference

@@ -1,4 +1,5 @@
-//! Scripts that change a good table, state or message in each place in turn, and lines at the edges of the script language.
+//! Scripts that change a good table, state or message in each place in turn, the largest table when it is full, and lines at the edges of the
+//! script language.
 //!
 //!   scripts    all of them; they are the same in every run
 
@@ -12,7 +13,9 @@ const TABLE: [u64; 36] = [
 ];
 
 pub fn scripts() -> Vec<Vec<String>> {
-    vec![each_word(), each_number_of_the_state(), each_length_of_a_table(), each_byte_of_a_message(), each_length_of_a_message(), edges_of_lines()]
+    let spaces = [each_word(), each_number_of_the_state(), each_length_of_a_table(), largest_table()];
+    let messages = [each_byte_of_a_message(), each_length_of_a_message()];
+    spaces.into_iter().chain(messages).chain([edges_of_lines()]).collect()
 }
 
 fn opening() -> String {
@@ -37,41 +40,64 @@ fn probes() -> [String; 3] {
     ["list large 100".to_string(), "release 96 416".to_string(), "show words".to_string()]
 }
 
-fn each_word() -> Vec<String> {
+/// The numbers with each of them changed in turn.
+fn each_change(numbers: &[u64]) -> Vec<Vec<u64>> {
+    let changed = |i: usize, to: u64| numbers.iter().enumerate().map(|(k, n)| if k == i { to } else { *n }).collect();
+    (0..numbers.len()).flat_map(|i| changes(numbers[i]).map(|to| changed(i, to))).collect()
+}
+
+/// Each pair of a state and a table, probed.
+fn probed(spaces: impl IntoIterator<Item = (Vec<u64>, Vec<u64>)>) -> Vec<String> {
     let mut lines = vec![opening()];
-    for i in 0..TABLE.len() {
-        for change in changes(TABLE[i]) {
-            let mut table = TABLE;
-            table[i] = change;
-            lines.extend([state_line(&STATE), words_line(&table)]);
-            lines.extend(probes());
-        }
+    for (state, table) in spaces {
+        lines.extend([state_line(&state), words_line(&table)]);
+        lines.extend(probes());
     }
     lines
 }
 
+fn each_word() -> Vec<String> {
+    probed(each_change(&TABLE).into_iter().map(|table| (STATE.to_vec(), table)))
+}
+
 fn each_number_of_the_state() -> Vec<String> {
-    let mut lines = vec![opening()];
-    for i in 0..STATE.len() {
-        for change in changes(STATE[i]) {
-            let mut state = STATE;
-            state[i] = change;
-            lines.extend([words_line(&TABLE), state_line(&state)]);
-            lines.extend(probes());
-        }
-    }
-    lines
+    probed(each_change(&STATE).into_iter().map(|state| (state, TABLE.to_vec())))
 }
 
 /// The table cut short or with zero words behind it: sound from 24 words on, at multiples of 3.
 fn each_length_of_a_table() -> Vec<String> {
-    let mut lines = vec![opening()];
-    for length in (0..48).chain([3_069, 3_070, 3_072, 3_073, 3_075, MOST_WORDS]) {
+    let lengths = (0..48).chain([3_069, 3_070, 3_072, 3_073, 3_075, MOST_WORDS]);
+    probed(lengths.map(|length| {
         let mut table = TABLE.to_vec();
         table.resize(length, 0);
-        lines.extend([state_line(&STATE), words_line(&table)]);
-        lines.extend(probes());
-    }
+        (STATE.to_vec(), table)
+    }))
+}
+
+/// The largest table with all entries taken, 512 pages of a small piece and a free rest: calls that need an entry more, and calls that need
+/// none.
+fn largest_table() -> Vec<String> {
+    let table: Vec<u64> = (0..512).map(|i| 512 * i).flat_map(|at| [at, 300, 1, at + 300, 212, 4]).collect();
+    let calls = [
+        "allocate metadata 213",
+        "allocate metadata 211",
+        "allocate raw 1",
+        "allocate raw 512",
+        "shorten 0 300 1",
+        "extend 0 299 1",
+        "allocate metadata 212",
+        "shorten 300 212 1",
+        "release 512 300",
+        "allocate raw 1024",
+        "extend 262144 1024 1",
+        "extend 262144 1024 512",
+        "allocate raw 513",
+        "allocate raw 512",
+        "list metadata 1020",
+        "list metadata 1019",
+    ];
+    let mut lines = vec!["open 512 1048576 1024".to_string(), state_line(&[512, 1_048_576, 262_144, 1_024]), words_line(&table)];
+    lines.extend(calls.iter().flat_map(|call| [call.to_string(), "show words".to_string()]));
     lines
 }
 

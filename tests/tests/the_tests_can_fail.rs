@@ -4,7 +4,8 @@
 use difftest::draw::Draw;
 use difftest::generate::script;
 use difftest::model::SLIPS;
-use difftest::play::{compare, shrink, Program, Tally};
+use difftest::play::{compare, shrink, Program};
+use difftest::tally::Tally;
 use std::process::Command;
 
 const RUNNER: &str = env!("CARGO_BIN_EXE_runner");
