@@ -8,7 +8,7 @@
 use crate::draw::Draw;
 use crate::message::{self, Fields, UNDEFINED};
 use crate::model::{self, Entry, Model, State, ENTRY_WORDS, FREE_LARGE, LARGEST_LIMIT, LARGEST_PAGE};
-use crate::script::{hex_of, joined, Machine};
+use crate::script::{hex_of, joined, show_words, state_line, words_line, Machine};
 
 const PAGES: [u64; 9] = [512, 512, 513, 1_000, 1_000, 1_023, 4_096, 65_536, LARGEST_PAGE];
 
@@ -67,7 +67,7 @@ impl Author<'_> {
     /// Adds a call on a space, and a look at every word.
     fn call(&mut self, line: String) {
         self.say(line);
-        self.say("show words".to_string());
+        self.say(show_words());
     }
 
     // Sorts of scripts.
@@ -306,14 +306,6 @@ impl Author<'_> {
 
     // Damage.
 
-    fn say_state(&mut self, s: State) {
-        self.say(format!("state {} {} {} {}", s.page, s.limit, s.end, s.count));
-    }
-
-    fn say_words(&mut self, table: &[u64]) {
-        self.say(format!("words {}", joined(table)));
-    }
-
     /// A call on the damaged space, and then the space as it was; a damaged one that is still sound may go on.
     fn try_and_restore(&mut self, before: Model) {
         let still_sound = model::is_sound(&self.state(), &self.model().table);
@@ -321,9 +313,8 @@ impl Author<'_> {
         if still_sound && self.draw.once_in(2) {
             return;
         }
-        self.say("show words".to_string());
-        self.say_words(&before.table);
-        self.say_state(before.state);
+        self.say(words_line(&before.table));
+        self.say(state_line(&before.state));
     }
 
     fn damaged_state(&mut self) {
@@ -339,7 +330,7 @@ impl Author<'_> {
             6 => s.count = self.near(s.count),
             _ => s.count = self.draw.pick(&[0, before.table.len() as u64 / 3, 1 << 62, (1 << 63) + s.count, u64::MAX]),
         }
-        self.say_state(s);
+        self.say(state_line(&s));
         self.try_and_restore(before);
     }
 
@@ -351,9 +342,9 @@ impl Author<'_> {
             1 => self.damage_the_length(&mut damaged.table),
             _ => self.damage_an_entry(&mut damaged),
         }
-        self.say_words(&damaged.table);
+        self.say(words_line(&damaged.table));
         if damaged.state != before.state {
-            self.say_state(damaged.state);
+            self.say(state_line(&damaged.state));
         }
         self.try_and_restore(before);
     }

@@ -48,6 +48,16 @@ pub struct State {
     pub count: u64,
 }
 
+impl State {
+    pub fn of([page, limit, end, count]: [u64; 4]) -> State {
+        State { page, limit, end, count }
+    }
+
+    pub fn numbers(&self) -> [u64; 4] {
+        [self.page, self.limit, self.end, self.count]
+    }
+}
+
 #[derive(Clone, Copy, Debug, PartialEq, Eq)]
 pub struct Entry {
     pub address: u64,

@@ -4,7 +4,7 @@
 //!   compare      the first difference between the program and the model over a stream of scripts, if there is one
 //!   shrink       the shortest script found that still shows a difference
 
-use crate::script::Machine;
+use crate::script::{state_line, words_line, Machine};
 use crate::tally::{Met, Tally};
 use std::io::{BufRead, BufReader, Write};
 use std::process::{Command, Stdio};
@@ -14,6 +14,9 @@ use std::time::{Duration, Instant};
 
 /// No answer for this long, and the program counts as one that answers no more.
 const PATIENCE: Duration = Duration::from_secs(30);
+
+/// So many lines before a difference are tried by themselves.
+const MOST_BACK: usize = 4;
 
 /// Shrinking stops after this long with what it has.
 const SHRINK_TIME: Duration = Duration::from_secs(60);
@@ -101,11 +104,32 @@ pub fn compare(program: &Program, lines: &[String], tally: &mut Tally) -> Option
     difference
 }
 
+/// The model's state and table before line `from`, set by two lines, and the lines from there on up to `to`.
+fn jumped(lines: &[String], from: usize, to: usize) -> Vec<String> {
+    let mut machine = Machine::default();
+    for line in &lines[..from] {
+        machine.answer(line);
+    }
+    let set = [words_line(&machine.model.table), state_line(&machine.model.state)];
+    set.into_iter().chain(lines[from..to].iter().cloned()).collect()
+}
+
+/// A start for shrinking: the last lines alone, over the state and table that they met, where that still shows a difference.
+fn last_lines(program: &Program, lines: &[String], difference: Difference) -> (Vec<String>, Difference) {
+    let to = lines.len().min(difference.line + 1);
+    for back in 1..=MOST_BACK.min(to) {
+        let fewer = jumped(lines, to - back, to);
+        if let Some(difference) = compare(program, &fewer, &mut Tally::default()) {
+            return (fewer, difference);
+        }
+    }
+    (lines[..to].to_vec(), difference)
+}
+
 /// Lines are left out, many at a time and then one by one, as long as a difference stays.
 pub fn shrink(program: &Program, lines: &[String], difference: Difference) -> (Vec<String>, Difference) {
     let began = Instant::now();
-    let mut best = lines[..lines.len().min(difference.line + 1)].to_vec();
-    let mut seen = difference;
+    let (mut best, mut seen) = last_lines(program, lines, difference);
     let mut part = best.len().div_ceil(2);
     while part > 0 {
         let mut from = 0;

@@ -80,37 +80,23 @@ fn claims_hold(program: &Program) -> bool {
     true
 }
 
-/// The script that shows the difference, alone where that is enough, else with those that were played before it.
-fn shortest(program: &Program, scripts: &[Vec<String>], stream: &[String], difference: Difference) -> (Vec<String>, Difference) {
-    let mut behind = 0;
-    for one in scripts {
-        behind += one.len();
-        if difference.line < behind {
-            if let Some(alone) = compare(program, one, &mut Tally::default()) {
-                return shrink(program, one, alone);
-            }
-            break;
-        }
-    }
-    shrink(program, stream, difference)
-}
-
 /// A run of scripts agrees with the model; else the shortest script that shows a difference is printed.
 fn run_agrees(program: &Program, scripts: &[Vec<String>], tally: &mut Tally) -> bool {
     let stream: Vec<String> = scripts.iter().flatten().cloned().collect();
     let Some(difference) = compare(program, &stream, tally) else {
         return true;
     };
-    let (lines, difference) = shortest(program, scripts, &stream, difference);
+    let (lines, difference) = shrink(program, &stream, difference);
     report(&lines, &difference);
     false
 }
 
-/// The sweeps and random scripts agree with the model, until enough calls were compared.
+/// The sweeps and random scripts agree with the model, until enough calls of random scripts were compared.
 fn scripts_agree(options: &Options, tally: &mut Tally) -> bool {
     let mut draw = Draw::new(options.seed);
     let mut agree = run_agrees(&options.program, &sweep::scripts(), tally);
-    while agree && tally.calls() < options.calls {
+    let swept = tally.calls();
+    while agree && tally.calls() < swept + options.calls {
         let scripts: Vec<Vec<String>> = (0..SCRIPTS_IN_A_RUN).map(|_| script(&mut draw)).collect();
         agree = run_agrees(&options.program, &scripts, tally);
     }

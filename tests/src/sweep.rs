@@ -1,33 +1,27 @@
-//! Scripts that change a good table, state or message in each place in turn, the largest table when it is full, and lines at the edges of the
-//! script language.
+//! Scripts that change a good table, state or message in each place in turn, go through all small tables at a page's edges, fill the largest
+//! one, and try lines at the edges of the script language.
 //!
 //!   scripts    all of them; they are the same in every run
 
 use crate::message::{bytes_of, Fields, LENGTH, UNDEFINED};
-use crate::script::{hex_of, joined, LONGEST_LINE, MOST_WORDS};
+use crate::model::{State, LARGEST_LIMIT};
+use crate::script::{hex_of, show_words, state_line, words_line, LONGEST_LINE, MOST_WORDS};
 
 /// Document 01's state and table after step 5.
-const STATE: [u64; 4] = [512, 5_120, 2_560, 8];
+const STATE: State = State { page: 512, limit: 5_120, end: 2_560, count: 8 };
 const TABLE: [u64; 36] = [
     0, 96, 1, 96, 416, 1, 512, 100, 2, 612, 412, 5, 1024, 700, 3, 1724, 324, 6, 2048, 10, 1, 2058, 502, 4, 0, 0, 0, 0, 0, 0, 0, 0, 0, 0, 0, 0,
 ];
 
 pub fn scripts() -> Vec<Vec<String>> {
-    let spaces = [each_word(), each_number_of_the_state(), each_length_of_a_table(), largest_table()];
+    let damaged = [each_word(), each_number_of_the_state(), each_length_of_a_table()];
+    let tables = [each_small_table(512), each_small_table(1_000), largest_table()];
     let messages = [each_byte_of_a_message(), each_length_of_a_message()];
-    spaces.into_iter().chain(messages).chain([edges_of_lines()]).collect()
+    damaged.into_iter().chain(tables).chain(messages).chain([edges_of_lines()]).collect()
 }
 
 fn opening() -> String {
     "open 512 5120 12".to_string()
-}
-
-fn state_line(state: &[u64]) -> String {
-    format!("state {}", joined(state))
-}
-
-fn words_line(words: &[u64]) -> String {
-    format!("words {}", joined(words))
 }
 
 /// What a word is changed to.
@@ -37,17 +31,17 @@ fn changes(word: u64) -> [u64; 9] {
 
 /// Calls that a damaged space gets: one that writes nothing, and one that would.
 fn probes() -> [String; 3] {
-    ["list large 100".to_string(), "release 96 416".to_string(), "show words".to_string()]
+    ["list large 100".to_string(), "release 96 416".to_string(), show_words()]
 }
 
 /// The numbers with each of them changed in turn.
-fn each_change(numbers: &[u64]) -> Vec<Vec<u64>> {
-    let changed = |i: usize, to: u64| numbers.iter().enumerate().map(|(k, n)| if k == i { to } else { *n }).collect();
-    (0..numbers.len()).flat_map(|i| changes(numbers[i]).map(|to| changed(i, to))).collect()
+fn each_change<const N: usize>(numbers: [u64; N]) -> Vec<[u64; N]> {
+    let changed = |i: usize, to: u64| std::array::from_fn(|k| if k == i { to } else { numbers[k] });
+    (0..N).flat_map(|i| changes(numbers[i]).map(|to| changed(i, to))).collect()
 }
 
-/// Each pair of a state and a table, probed.
-fn probed(spaces: impl IntoIterator<Item = (Vec<u64>, Vec<u64>)>) -> Vec<String> {
+/// Each state with its table, probed.
+fn probed(spaces: impl IntoIterator<Item = (State, Vec<u64>)>) -> Vec<String> {
     let mut lines = vec![opening()];
     for (state, table) in spaces {
         lines.extend([state_line(&state), words_line(&table)]);
@@ -57,11 +51,11 @@ fn probed(spaces: impl IntoIterator<Item = (Vec<u64>, Vec<u64>)>) -> Vec<String>
 }
 
 fn each_word() -> Vec<String> {
-    probed(each_change(&TABLE).into_iter().map(|table| (STATE.to_vec(), table)))
+    probed(each_change(TABLE).into_iter().map(|table| (STATE, table.to_vec())))
 }
 
 fn each_number_of_the_state() -> Vec<String> {
-    probed(each_change(&STATE).into_iter().map(|state| (state, TABLE.to_vec())))
+    probed(each_change(STATE.numbers()).into_iter().map(|state| (State::of(state), TABLE.to_vec())))
 }
 
 /// The table cut short or with zero words behind it: sound from 24 words on, at multiples of 3.
@@ -70,8 +64,43 @@ fn each_length_of_a_table() -> Vec<String> {
     probed(lengths.map(|length| {
         let mut table = TABLE.to_vec();
         table.resize(length, 0);
-        (STATE.to_vec(), table)
+        (STATE, table)
     }))
+}
+
+/// Each way to choose `count` of these.
+fn choices(of: &[u64], count: usize) -> Vec<Vec<u64>> {
+    if count == 0 {
+        return vec![vec![]];
+    }
+    let with = |rest: Vec<u64>| of.iter().map(move |one| [&rest[..], &[*one]].concat()).collect::<Vec<_>>();
+    choices(of, count - 1).into_iter().flat_map(with).collect()
+}
+
+/// Entries of these sizes and kinds, one behind the other, in a table of 4; the first one is released. Sums go round at 2^64.
+fn in_a_row(page: u64, sizes: &[u64], kinds: &[u64]) -> [String; 4] {
+    let mut table = [0; 12];
+    let mut end: u64 = 0;
+    for (i, (size, kind)) in sizes.iter().zip(kinds).enumerate() {
+        table[3 * i..3 * i + 3].copy_from_slice(&[end, *size, *kind]);
+        end = end.wrapping_add(*size);
+    }
+    let state = State { page, limit: LARGEST_LIMIT, end, count: sizes.len() as u64 };
+    [state_line(&state), words_line(&table), format!("release 0 {}", sizes[0]), show_words()]
+}
+
+/// Each table of up to three entries of any kinds, with sizes at a page's edges, whose end is a page's border: each rule of a sound table is
+/// broken by itself in some of them.
+fn each_small_table(page: u64) -> Vec<String> {
+    let edges = [1, page - 1, page, page + 1, 1 << 63];
+    let mut lines = vec![opening()];
+    for count in 1..=3 {
+        let ends_at_a_border = |sizes: &Vec<u64>| sizes.iter().fold(0u64, |end, size| end.wrapping_add(*size)) % page == 0;
+        for sizes in choices(&edges, count).into_iter().filter(ends_at_a_border) {
+            lines.extend(choices(&[1, 2, 3, 4, 5, 6], count).iter().flat_map(|kinds| in_a_row(page, &sizes, kinds)));
+        }
+    }
+    lines
 }
 
 /// The largest table with all entries taken, 512 pages of a small piece and a free rest: calls that need an entry more, and calls that need
@@ -96,8 +125,8 @@ fn largest_table() -> Vec<String> {
         "list metadata 1020",
         "list metadata 1019",
     ];
-    let mut lines = vec!["open 512 1048576 1024".to_string(), state_line(&[512, 1_048_576, 262_144, 1_024]), words_line(&table)];
-    lines.extend(calls.iter().flat_map(|call| [call.to_string(), "show words".to_string()]));
+    let mut lines = vec!["open 512 1048576 1024".to_string(), state_line(&State::of([512, 1_048_576, 262_144, 1_024])), words_line(&table)];
+    lines.extend(calls.iter().flat_map(|call| [call.to_string(), show_words()]));
     lines
 }
 
@@ -109,11 +138,16 @@ fn messages() -> [Vec<u8>; 2] {
     [bytes_of(&persistent), bytes_of(&plain)]
 }
 
+/// What a byte of a message is changed to: the version, the strategy and persist to anything.
+fn byte_changes(i: usize, byte: u8) -> Vec<u8> {
+    if i < 3 { (0..=255).collect() } else { vec![byte ^ 1, byte ^ 0x80, !byte] }
+}
+
 fn each_byte_of_a_message() -> Vec<String> {
     let mut lines = vec![opening()];
     for message in messages() {
         for i in 0..LENGTH {
-            for change in [message[i] ^ 1, message[i] ^ 0x80, !message[i]] {
+            for change in byte_changes(i, message[i]) {
                 let mut damaged = message.clone();
                 damaged[i] = change;
                 lines.push(format!("read {}", hex_of(&damaged)));
@@ -137,8 +171,7 @@ fn edges_of_lines() -> Vec<String> {
     let call = "allocate raw 1";
     let padded = |length: usize| call.to_string() + &" ".repeat(length - call.len());
     let zeros = |count: usize| words_line(&vec![0; count]);
-    let look = || "show words".to_string();
-    let mut lines = vec![opening(), padded(LONGEST_LINE), look(), padded(LONGEST_LINE + 1), look(), padded(3 * LONGEST_LINE), look()];
-    lines.extend([zeros(MOST_WORDS), zeros(MOST_WORDS + 1), look(), "words".to_string(), look(), opening()]);
+    let mut lines = vec![opening(), padded(LONGEST_LINE), show_words(), padded(LONGEST_LINE + 1), show_words(), padded(3 * LONGEST_LINE), show_words()];
+    lines.extend([zeros(MOST_WORDS), zeros(MOST_WORDS + 1), show_words(), "words".to_string(), show_words(), opening()]);
     lines
 }
