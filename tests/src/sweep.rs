@@ -4,7 +4,7 @@
 //!   scripts    all of them; they are the same in every run
 
 use crate::message::{bytes_of, Fields, LENGTH, UNDEFINED};
-use crate::model::{State, LARGEST_LIMIT};
+use crate::model::{State, ENTRY_WORDS, LARGEST_LIMIT};
 use crate::script::{hex_of, show_words, state_line, words_line, LONGEST_LINE, MOST_WORDS};
 
 /// Document 01's state and table after step 5.
@@ -79,18 +79,18 @@ fn choices(of: &[u64], count: usize) -> Vec<Vec<u64>> {
 
 /// Entries of these sizes and kinds, one behind the other, in a table of 4; the first one is released. Sums go round at 2^64.
 fn in_a_row(page: u64, sizes: &[u64], kinds: &[u64]) -> [String; 4] {
-    let mut table = [0; 12];
+    let mut table = [0; 4 * ENTRY_WORDS];
     let mut end: u64 = 0;
-    for (i, (size, kind)) in sizes.iter().zip(kinds).enumerate() {
-        table[3 * i..3 * i + 3].copy_from_slice(&[end, *size, *kind]);
+    for (words, (size, kind)) in table.chunks_mut(ENTRY_WORDS).zip(sizes.iter().zip(kinds)) {
+        words.copy_from_slice(&[end, *size, *kind]);
         end = end.wrapping_add(*size);
     }
     let state = State { page, limit: LARGEST_LIMIT, end, count: sizes.len() as u64 };
     [state_line(&state), words_line(&table), format!("release 0 {}", sizes[0]), show_words()]
 }
 
-/// Each table of up to three entries of any kinds, with sizes at a page's edges, whose end is a page's border: each rule of a sound table is
-/// broken by itself in some of them.
+/// Each table of up to three entries of any kinds, with sizes at a page's edges, whose end is a page's border: few are sound, and many others
+/// break one rule alone.
 fn each_small_table(page: u64) -> Vec<String> {
     let edges = [1, page - 1, page, page + 1, 1 << 63];
     let mut lines = vec![opening()];
@@ -171,7 +171,8 @@ fn edges_of_lines() -> Vec<String> {
     let call = "allocate raw 1";
     let padded = |length: usize| call.to_string() + &" ".repeat(length - call.len());
     let zeros = |count: usize| words_line(&vec![0; count]);
-    let mut lines = vec![opening(), padded(LONGEST_LINE), show_words(), padded(LONGEST_LINE + 1), show_words(), padded(3 * LONGEST_LINE), show_words()];
-    lines.extend([zeros(MOST_WORDS), zeros(MOST_WORDS + 1), show_words(), "words".to_string(), show_words(), opening()]);
-    lines
+    let padded_lines = [LONGEST_LINE, LONGEST_LINE + 1, 3 * LONGEST_LINE].map(padded);
+    let edges = padded_lines.into_iter().chain([zeros(MOST_WORDS), zeros(MOST_WORDS + 1), "words".to_string()]);
+    let looked_at = edges.flat_map(|line| [line, show_words()]);
+    [opening()].into_iter().chain(looked_at).chain([opening()]).collect()
 }

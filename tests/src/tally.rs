@@ -23,7 +23,7 @@ pub const CALLS: [(&str, &[u64]); 9] = [
 const ACCEPTED: usize = 0;
 const REFUSALS: usize = 12;
 
-/// A call on a sound space: its words, and the space after it.
+/// What a call met: the space after it, and whether it names a number near 2^64.
 #[derive(Clone, Debug, Default)]
 pub struct Met {
     pub page: u64,
@@ -32,7 +32,9 @@ pub struct Met {
     pub is_near_the_largest: bool,
 }
 
-pub const SITUATIONS: [(&str, fn(&Met) -> bool); 8] = [
+type IsMet = fn(&Met) -> bool;
+
+pub const SITUATIONS: [(&str, IsMet); 8] = [
     ("P = 512", |m| m.page == 512),
     ("P = 1,000", |m| m.page == 1_000),
     ("P = 4,096", |m| m.page == 4_096),
@@ -144,9 +146,10 @@ mod tests {
     fn a_call_is_counted_by_its_answer() {
         let mut tally = Tally::default();
         let met = Met { page: 512, ..Met::default() };
-        for (line, answer) in [("allocate raw 0", "refused 4; end 0; 0 entries"), ("allocate raw 1", "refused 2; end 0; 0 entries"), ("allocate", "line 3: wrong count of words"), ("show words", "words: 0 0 0")] {
-            tally.count(line, answer, &met);
-        }
+        tally.count("allocate raw 0", "refused 4; end 0; 0 entries", &met);
+        tally.count("allocate raw 1", "refused 2; end 0; 0 entries", &met);
+        tally.count("allocate", "line 3: wrong count of words", &met);
+        tally.count("show words", "words: 0 0 0", &met);
         assert_eq!((tally.calls(), tally.answers, tally.words, tally.wrong_lines), (2, 4, 3, 1));
         assert_eq!((tally.of[2][4], tally.of[2][2], tally.situations[0]), (1, 1, 1));
     }
