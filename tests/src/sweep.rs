@@ -89,8 +89,8 @@ fn in_a_row(page: u64, sizes: &[u64], kinds: &[u64]) -> [String; 4] {
     [state_line(&state), words_line(&table), format!("release 0 {}", sizes[0]), show_words()]
 }
 
-/// Each table of up to three entries of any kinds, with sizes at a page's edges, whose end is a page's border: few are sound, and many others
-/// break one rule alone.
+/// Each table of up to three entries of any kinds, with sizes at a page's edges, whose end is a page's border: few are sound, and some
+/// others break one rule alone.
 fn each_small_table(page: u64) -> Vec<String> {
     let edges = [1, page - 1, page, page + 1, 1 << 63];
     let mut lines = vec![opening()];
