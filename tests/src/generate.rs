@@ -3,12 +3,12 @@
 //!
 //!   script     a script from a seed: calls on a space, on a wide table, on messages, or openings at the edges of their ranges
 //!
-//! Every refused call, and one accepted call in four, is followed by `show words`.
+//! Every call on a space is followed by `show words`, but for those that fill a wide table.
 
 use crate::draw::Draw;
 use crate::message::{self, Fields, UNDEFINED};
 use crate::model::{self, Entry, Model, State, ENTRY_WORDS, FREE_LARGE, LARGEST_LIMIT, LARGEST_PAGE};
-use crate::script::{hex_of, joined, Machine};
+use crate::script::{hex_of, joined, show_words, state_line, words_line, Machine};
 
 const PAGES: [u64; 9] = [512, 512, 513, 1_000, 1_000, 1_023, 4_096, 65_536, LARGEST_PAGE];
 
@@ -64,12 +64,10 @@ impl Author<'_> {
         answer
     }
 
-    /// Adds a call, and a look at every word where one is due.
+    /// Adds a call on a space, and a look at every word.
     fn call(&mut self, line: String) {
-        let answer = self.say(line);
-        if answer.starts_with("refused") || self.draw.once_in(4) {
-            self.say("show words".to_string());
-        }
+        self.say(line);
+        self.say(show_words());
     }
 
     // Sorts of scripts.
@@ -87,12 +85,12 @@ impl Author<'_> {
         }
     }
 
-    /// A table with many entries, mostly small ones, up to the largest legal one.
+    /// A table with many entries, mostly small ones, up to the largest legal one; all are taken.
     fn wide_table(&mut self) {
         let page = self.draw.pick(&[512, 1_000]);
         let entries = self.draw.pick(&[64, 100, 341, 1_024]);
         self.say(format!("open {page} {LARGEST_LIMIT} {entries}"));
-        for _ in 0..entries / 2 {
+        while self.state().count < entries {
             let (kind, size) = (1 + self.draw.below(2), 1 + self.draw.below(page));
             self.say(format!("allocate {kind} {size}"));
         }
@@ -165,7 +163,12 @@ impl Author<'_> {
     }
 
     fn extend(&mut self) {
-        let (address, size) = self.name();
+        // A piece that ends at the end of the file is the one that can make it grow.
+        let last = self.model().entries().last().copied().filter(Entry::is_live);
+        let (address, size) = match last {
+            Some(piece) if self.draw.once_in(3) => (piece.address, piece.size),
+            _ => self.name(),
+        };
         let by = self.extension(address, size);
         self.call(format!("extend {address} {size} {by}"));
     }
@@ -236,7 +239,8 @@ impl Author<'_> {
             7 => u64::MAX - self.draw.below(3),
             8 => u64::MAX - self.draw.below(2 * page),
             9 => self.near(1 << 62),
-            10 | 11 => page + self.draw.below(3 * page),
+            10 => page * (1 + self.draw.below(4)),
+            11 => page + self.draw.below(3 * page),
             12..=14 => 1 + self.draw.below(16),
             _ => 1 + self.draw.below(page),
         }
@@ -302,14 +306,6 @@ impl Author<'_> {
 
     // Damage.
 
-    fn say_state(&mut self, s: State) {
-        self.say(format!("state {} {} {} {}", s.page, s.limit, s.end, s.count));
-    }
-
-    fn say_words(&mut self, table: &[u64]) {
-        self.say(format!("words {}", joined(table)));
-    }
-
     /// A call on the damaged space, and then the space as it was; a damaged one that is still sound may go on.
     fn try_and_restore(&mut self, before: Model) {
         let still_sound = model::is_sound(&self.state(), &self.model().table);
@@ -317,9 +313,8 @@ impl Author<'_> {
         if still_sound && self.draw.once_in(2) {
             return;
         }
-        self.say("show words".to_string());
-        self.say_words(&before.table);
-        self.say_state(before.state);
+        self.say(words_line(&before.table));
+        self.say(state_line(&before.state));
     }
 
     fn damaged_state(&mut self) {
@@ -335,7 +330,7 @@ impl Author<'_> {
             6 => s.count = self.near(s.count),
             _ => s.count = self.draw.pick(&[0, before.table.len() as u64 / 3, 1 << 62, (1 << 63) + s.count, u64::MAX]),
         }
-        self.say_state(s);
+        self.say(state_line(&s));
         self.try_and_restore(before);
     }
 
@@ -347,9 +342,9 @@ impl Author<'_> {
             1 => self.damage_the_length(&mut damaged.table),
             _ => self.damage_an_entry(&mut damaged),
         }
-        self.say_words(&damaged.table);
+        self.say(words_line(&damaged.table));
         if damaged.state != before.state {
-            self.say_state(damaged.state);
+            self.say(state_line(&damaged.state));
         }
         self.try_and_restore(before);
     }
@@ -514,16 +509,6 @@ fn join(entries: &mut Vec<Entry>, i: usize) {
     }
 }
 
-fn write_line(f: &Fields, room: u64) -> String {
-    format!(
-        "write {} {} {} {} {} {} {} {} {room}",
-        f.strategy,
-        f.persist,
-        f.threshold,
-        f.page,
-        f.page_end,
-        f.eoa,
-        joined(&f.small),
-        joined(&f.large)
-    )
+fn write_line(fields: &Fields, room: u64) -> String {
+    format!("write {} {room}", joined(&fields.numbers()))
 }

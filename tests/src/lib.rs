@@ -7,6 +7,7 @@
 //!   sweep      scripts that change a good table, state or message in each place in turn
 //!   generate   random scripts, drawn with the model's knowledge of the table
 //!   draw       random numbers from a seed
+//!   tally      what was compared, and what a run must not lack
 //!   play       a script played through a program, compared, and shrunk on a difference
 //!
 //! Programs: `runner` plays scripts through the program that it is given; `model_filespace` speaks the program's script
@@ -20,3 +21,4 @@ pub mod model;
 pub mod play;
 pub mod script;
 pub mod sweep;
+pub mod tally;

@@ -28,6 +28,12 @@ pub struct Fields {
 }
 
 impl Fields {
+    /// Every field in the message's order, each address by itself.
+    pub fn numbers(&self) -> Vec<u64> {
+        let head = [self.strategy.into(), self.persist.into(), self.threshold, self.page, self.page_end.into(), self.eoa];
+        [head, self.small, self.large].concat()
+    }
+
     fn keep_the_rules(&self) -> bool {
         let mut addresses = self.small.iter().chain(&self.large);
         self.strategy <= 3

@@ -48,6 +48,16 @@ pub struct State {
     pub count: u64,
 }
 
+impl State {
+    pub fn of([page, limit, end, count]: [u64; 4]) -> State {
+        State { page, limit, end, count }
+    }
+
+    pub fn numbers(&self) -> [u64; 4] {
+        [self.page, self.limit, self.end, self.count]
+    }
+}
+
 #[derive(Clone, Copy, Debug, PartialEq, Eq)]
 pub struct Entry {
     pub address: u64,
@@ -482,24 +492,23 @@ impl Model {
         self.finish(work)
     }
 
-    pub fn extend(&mut self, address: u64, size: u64, by: u64) -> Result<(), Refusal> {
+    /// A live piece gets another size. Extend and shorten start with the same refusals: 2, 4, 7.
+    fn resize(&mut self, address: u64, size: u64, by: u64, how: fn(&mut Work, usize, u64) -> Result<(), Refusal>) -> Result<(), Refusal> {
         let mut work = self.begin()?;
         if size == 0 || by == 0 {
             return Err(NO_BYTES);
         }
         let i = work.find(address, size)?;
-        work.extend(i, by)?;
+        how(&mut work, i, by)?;
         self.finish(work)
     }
 
+    pub fn extend(&mut self, address: u64, size: u64, by: u64) -> Result<(), Refusal> {
+        self.resize(address, size, by, Work::extend)
+    }
+
     pub fn shorten(&mut self, address: u64, size: u64, by: u64) -> Result<(), Refusal> {
-        let mut work = self.begin()?;
-        if size == 0 || by == 0 {
-            return Err(NO_BYTES);
-        }
-        let i = work.find(address, size)?;
-        work.shorten(i, by)?;
-        self.finish(work)
+        self.resize(address, size, by, Work::shorten)
     }
 
     /// Address and size of each free section of a manager, where a lent slice of `room` words holds them.

@@ -17,6 +17,10 @@ fn slip_named(name: &str) -> Slip {
 
 fn main() -> std::io::Result<()> {
     let slip = std::env::args().nth(1).map_or(Slip::None, |name| slip_named(&name));
+    if slip != Slip::None {
+        // A wrong model may break down. The runner sees that the answers end there, and the tests stay readable.
+        std::panic::set_hook(Box::new(|_| {}));
+    }
     let mut machine = Machine::new(Model { slip, ..Model::default() });
     let mut output = BufWriter::new(std::io::stdout().lock());
     for line in std::io::stdin().lock().lines() {

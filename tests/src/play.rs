@@ -1,11 +1,11 @@
 //! Scripts played through a program, and compared with the model.
 //!
 //!   Program      the command under test
-//!   Tally        what was compared
 //!   compare      the first difference between the program and the model over a stream of scripts, if there is one
 //!   shrink       the shortest script found that still shows a difference
 
-use crate::script::Machine;
+use crate::script::{state_line, words_line, Machine};
+use crate::tally::{Met, Tally};
 use std::io::{BufRead, BufReader, Write};
 use std::process::{Command, Stdio};
 use std::sync::mpsc;
@@ -15,6 +15,9 @@ use std::time::{Duration, Instant};
 /// No answer for this long, and the program counts as one that answers no more.
 const PATIENCE: Duration = Duration::from_secs(30);
 
+/// So many lines before a difference are tried by themselves.
+const MOST_BACK: usize = 4;
+
 /// Shrinking stops after this long with what it has.
 const SHRINK_TIME: Duration = Duration::from_secs(60);
 
@@ -22,18 +25,6 @@ pub const NO_ANSWER: &str = "(no answer)";
 
 pub struct Program {
     pub command: Vec<String>,
-}
-
-#[derive(Clone, Copy, Debug, Default)]
-pub struct Tally {
-    /// Lines that are a call on a space, a listing or a message, with a right count of words or not.
-    pub calls: u64,
-    /// Answers of any sort.
-    pub answers: u64,
-    /// Words of tables seen by `show words`.
-    pub words: u64,
-    /// Calls refused with each number.
-    pub refused: [u64; 13],
 }
 
 /// Line `line` of a stream is answered otherwise than it must be.
@@ -82,28 +73,6 @@ impl Program {
     }
 }
 
-/// The number of the refusal that an answer says.
-fn refusal_in(answer: &str) -> Option<usize> {
-    let number = answer.strip_prefix("refused ")?;
-    number.split(';').next()?.parse().ok()
-}
-
-impl Tally {
-    fn count(&mut self, line: &str, answer: &str) {
-        let call = line.split_ascii_whitespace().next().unwrap_or("");
-        self.answers += 1;
-        if !["show", "state", "words"].contains(&call) {
-            self.calls += 1;
-        }
-        if let Some(number) = refusal_in(answer) {
-            self.refused[number] += 1;
-        }
-        if let Some(words) = answer.strip_prefix("words:") {
-            self.words += words.split_ascii_whitespace().count() as u64;
-        }
-    }
-}
-
 /// The first line that is answered otherwise than `expected` says; lines for which it says nothing have no answer.
 pub fn first_difference(program: &Program, lines: &[String], expected: &[Option<String>]) -> Option<Difference> {
     let mut found = program.answers(lines).into_iter();
@@ -117,29 +86,50 @@ pub fn first_difference(program: &Program, lines: &[String], expected: &[Option<
     found.next().map(|found| Difference { line: lines.len(), expected: NO_ANSWER.to_string(), found })
 }
 
-/// The model's answers to a stream of lines.
-fn expected(lines: &[String]) -> Vec<Option<String>> {
+/// The model's answers to a stream of lines, and what each line met.
+fn expected(lines: &[String]) -> (Vec<Option<String>>, Vec<Met>) {
     let mut machine = Machine::default();
-    lines.iter().map(|line| machine.answer(line)).collect()
+    lines.iter().map(|line| (machine.answer(line), Met::after(line, &machine.model))).unzip()
 }
 
 pub fn compare(program: &Program, lines: &[String], tally: &mut Tally) -> Option<Difference> {
-    let expected = expected(lines);
+    let (expected, met) = expected(lines);
     let difference = first_difference(program, lines, &expected);
     let compared = difference.as_ref().map_or(lines.len(), |d| d.line);
-    for (line, answer) in lines.iter().zip(&expected).take(compared) {
+    for ((line, answer), met) in lines.iter().zip(&expected).zip(&met).take(compared) {
         if let Some(answer) = answer {
-            tally.count(line, answer);
+            tally.count(line, answer, met);
         }
     }
     difference
 }
 
+/// The model's state and table before line `from`, set by two lines, and the lines from there on up to `to`.
+fn jumped(lines: &[String], from: usize, to: usize) -> Vec<String> {
+    let mut machine = Machine::default();
+    for line in &lines[..from] {
+        machine.answer(line);
+    }
+    let set = [words_line(&machine.model.table), state_line(&machine.model.state)];
+    set.into_iter().chain(lines[from..to].iter().cloned()).collect()
+}
+
+/// A start for shrinking: the last lines alone, over the state and table that they met, where that still shows a difference.
+fn last_lines(program: &Program, lines: &[String], difference: Difference) -> (Vec<String>, Difference) {
+    let to = lines.len().min(difference.line + 1);
+    for back in 1..=MOST_BACK.min(to) {
+        let fewer = jumped(lines, to - back, to);
+        if let Some(difference) = compare(program, &fewer, &mut Tally::default()) {
+            return (fewer, difference);
+        }
+    }
+    (lines[..to].to_vec(), difference)
+}
+
 /// Lines are left out, many at a time and then one by one, as long as a difference stays.
 pub fn shrink(program: &Program, lines: &[String], difference: Difference) -> (Vec<String>, Difference) {
     let began = Instant::now();
-    let mut best = lines[..lines.len().min(difference.line + 1)].to_vec();
-    let mut seen = difference;
+    let (mut best, mut seen) = last_lines(program, lines, difference);
     let mut part = best.len().div_ceil(2);
     while part > 0 {
         let mut from = 0;

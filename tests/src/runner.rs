@@ -4,18 +4,23 @@
 //!   runner [--seed N] [--calls N] COMMAND [WORDS..]
 //!
 //! The seed is printed; without one it is taken from the clock. On a difference the script is shrunk and printed with what was
-//! expected and what was found, and the exit status is 1.
+//! expected and what was found, and the exit status is 1. It is 1 too where a run of 20,000 calls or more lacked a call, one of its refusals
+//! or a situation: such a run shows too little.
 
 use difftest::document::{script_of, CLAIMS};
 use difftest::draw::Draw;
 use difftest::generate::script;
-use difftest::play::{compare, first_difference, shrink, Difference, Program, Tally};
+use difftest::play::{compare, first_difference, shrink, Difference, Program};
 use difftest::sweep;
+use difftest::tally::Tally;
 use std::process::ExitCode;
 use std::time::{Instant, SystemTime, UNIX_EPOCH};
 
 /// Scripts that one run of the program plays, one after the other: each starts with an opening.
 const SCRIPTS_IN_A_RUN: usize = 100;
+
+/// A run of so many calls must lack nothing.
+const LONG_RUN: u64 = 20_000;
 
 struct Options {
     seed: u64,
@@ -35,7 +40,7 @@ fn number_after(args: &mut Vec<String>) -> u64 {
 fn options() -> Options {
     let mut args: Vec<String> = std::env::args().skip(1).collect();
     let clock = SystemTime::now().duration_since(UNIX_EPOCH).map_or(0, |d| d.as_nanos() as u64);
-    let (mut seed, mut calls) = (clock, 20_000);
+    let (mut seed, mut calls) = (clock, LONG_RUN);
     while args.len() > 1 && args[0].starts_with("--") {
         match args[0].as_str() {
             "--seed" => seed = number_after(&mut args),
@@ -75,41 +80,37 @@ fn claims_hold(program: &Program) -> bool {
     true
 }
 
-/// The script that shows the difference, alone where that is enough, else with those that were played before it.
-fn shortest(program: &Program, scripts: &[Vec<String>], stream: &[String], difference: Difference) -> (Vec<String>, Difference) {
-    let mut behind = 0;
-    for one in scripts {
-        behind += one.len();
-        if difference.line < behind {
-            if let Some(alone) = compare(program, one, &mut Tally::default()) {
-                return shrink(program, one, alone);
-            }
-            break;
-        }
-    }
-    shrink(program, stream, difference)
-}
-
 /// A run of scripts agrees with the model; else the shortest script that shows a difference is printed.
 fn run_agrees(program: &Program, scripts: &[Vec<String>], tally: &mut Tally) -> bool {
     let stream: Vec<String> = scripts.iter().flatten().cloned().collect();
     let Some(difference) = compare(program, &stream, tally) else {
         return true;
     };
-    let (lines, difference) = shortest(program, scripts, &stream, difference);
+    let (lines, difference) = shrink(program, &stream, difference);
     report(&lines, &difference);
     false
 }
 
-/// The sweeps and random scripts agree with the model, until enough calls were compared.
+/// The sweeps and random scripts agree with the model, until enough calls of random scripts were compared.
 fn scripts_agree(options: &Options, tally: &mut Tally) -> bool {
     let mut draw = Draw::new(options.seed);
     let mut agree = run_agrees(&options.program, &sweep::scripts(), tally);
-    while agree && tally.calls < options.calls {
+    let swept = tally.calls();
+    while agree && tally.calls() < swept + options.calls {
         let scripts: Vec<Vec<String>> = (0..SCRIPTS_IN_A_RUN).map(|_| script(&mut draw)).collect();
         agree = run_agrees(&options.program, &scripts, tally);
     }
     agree
+}
+
+/// A long run lacked nothing; else what it lacked is printed.
+fn lacks_nothing(options: &Options, tally: &Tally) -> bool {
+    let missing = tally.missing();
+    if options.calls < LONG_RUN || missing.is_empty() {
+        return true;
+    }
+    println!("NEVER SEEN (seed {}): {}", options.seed, missing.join("; "));
+    false
 }
 
 fn main() -> ExitCode {
@@ -118,19 +119,14 @@ fn main() -> ExitCode {
     let began = Instant::now();
     let mut tally = Tally::default();
     let agree = claims_hold(&options.program) && scripts_agree(&options, &mut tally);
-    println!(
-        "{} calls, {} answers and {} words compared in {:.1} s",
-        tally.calls,
-        tally.answers,
-        tally.words,
-        began.elapsed().as_secs_f64()
-    );
-    let refusals: Vec<String> = (1..tally.refused.len()).map(|i| format!("{i}: {}", tally.refused[i])).collect();
-    println!("refused with {}", refusals.join(", "));
+    println!("{}", tally.lines().join("\n"));
+    let Tally { answers, words, wrong_lines, .. } = tally;
+    println!("{} calls and {wrong_lines} wrong lines: {answers} answers and {words} words compared", tally.calls());
+    println!("in {:.1} s", began.elapsed().as_secs_f64());
     if !agree {
         println!("NOT the same (seed {})", options.seed);
         return ExitCode::FAILURE;
     }
     println!("no difference");
-    ExitCode::SUCCESS
+    if lacks_nothing(&options, &tally) { ExitCode::SUCCESS } else { ExitCode::FAILURE }
 }

@@ -1,6 +1,7 @@
 //! The script language of the program `filespace`, answered by the model: one call to a line, one line for an answer.
 //!
 //!   Machine    the model with a count of lines; `answer` takes a line and gives what the program must print, if anything
+//!   state_line, words_line, show_words   lines that set a state or a table, and the one that shows every word
 //!
 //! Not here: `table` and `map`, whose answers are pictures for a person.
 
@@ -74,6 +75,18 @@ pub fn hex_of(bytes: &[u8]) -> String {
 
 pub fn joined(numbers: &[u64]) -> String {
     numbers.iter().map(u64::to_string).collect::<Vec<_>>().join(" ")
+}
+
+pub fn state_line(state: &State) -> String {
+    format!("state {}", joined(&state.numbers()))
+}
+
+pub fn words_line(table: &[u64]) -> String {
+    format!("words {}", joined(table))
+}
+
+pub fn show_words() -> String {
+    "show words".to_string()
 }
 
 /// A head, and behind it each word with a space in front.
@@ -192,7 +205,7 @@ impl Machine {
     fn set_state(&mut self, words: &[&str]) -> Result<String, Wrong> {
         exactly(4, words)?;
         let n = numbers(words)?;
-        self.model.state = State { page: n[0], limit: n[1], end: n[2], count: n[3] };
+        self.model.state = State::of([n[0], n[1], n[2], n[3]]);
         Ok("set".to_string())
     }
 

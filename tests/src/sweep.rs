@@ -1,30 +1,27 @@
-//! Scripts that change a good table, state or message in each place in turn, and lines at the edges of the script language.
+//! Scripts that change a good table, state or message in each place in turn, go through all small tables at a page's edges, fill the largest
+//! one, and try lines at the edges of the script language.
 //!
 //!   scripts    all of them; they are the same in every run
 
 use crate::message::{bytes_of, Fields, LENGTH, UNDEFINED};
-use crate::script::{hex_of, joined, LONGEST_LINE, MOST_WORDS};
+use crate::model::{State, ENTRY_WORDS, LARGEST_LIMIT};
+use crate::script::{hex_of, show_words, state_line, words_line, LONGEST_LINE, MOST_WORDS};
 
 /// Document 01's state and table after step 5.
-const STATE: [u64; 4] = [512, 5_120, 2_560, 8];
+const STATE: State = State { page: 512, limit: 5_120, end: 2_560, count: 8 };
 const TABLE: [u64; 36] = [
     0, 96, 1, 96, 416, 1, 512, 100, 2, 612, 412, 5, 1024, 700, 3, 1724, 324, 6, 2048, 10, 1, 2058, 502, 4, 0, 0, 0, 0, 0, 0, 0, 0, 0, 0, 0, 0,
 ];
 
 pub fn scripts() -> Vec<Vec<String>> {
-    vec![each_word(), each_number_of_the_state(), each_length_of_a_table(), each_byte_of_a_message(), each_length_of_a_message(), edges_of_lines()]
+    let damaged = [each_word(), each_number_of_the_state(), each_length_of_a_table()];
+    let tables = [each_small_table(512), each_small_table(1_000), largest_table()];
+    let messages = [each_byte_of_a_message(), each_length_of_a_message()];
+    damaged.into_iter().chain(tables).chain(messages).chain([edges_of_lines()]).collect()
 }
 
 fn opening() -> String {
     "open 512 5120 12".to_string()
-}
-
-fn state_line(state: &[u64]) -> String {
-    format!("state {}", joined(state))
-}
-
-fn words_line(words: &[u64]) -> String {
-    format!("words {}", joined(words))
 }
 
 /// What a word is changed to.
@@ -34,44 +31,102 @@ fn changes(word: u64) -> [u64; 9] {
 
 /// Calls that a damaged space gets: one that writes nothing, and one that would.
 fn probes() -> [String; 3] {
-    ["list large 100".to_string(), "release 96 416".to_string(), "show words".to_string()]
+    ["list large 100".to_string(), "release 96 416".to_string(), show_words()]
+}
+
+/// The numbers with each of them changed in turn.
+fn each_change<const N: usize>(numbers: [u64; N]) -> Vec<[u64; N]> {
+    let changed = |i: usize, to: u64| std::array::from_fn(|k| if k == i { to } else { numbers[k] });
+    (0..N).flat_map(|i| changes(numbers[i]).map(|to| changed(i, to))).collect()
+}
+
+/// Each state with its table, probed.
+fn probed(spaces: impl IntoIterator<Item = (State, Vec<u64>)>) -> Vec<String> {
+    let mut lines = vec![opening()];
+    for (state, table) in spaces {
+        lines.extend([state_line(&state), words_line(&table)]);
+        lines.extend(probes());
+    }
+    lines
 }
 
 fn each_word() -> Vec<String> {
-    let mut lines = vec![opening()];
-    for i in 0..TABLE.len() {
-        for change in changes(TABLE[i]) {
-            let mut table = TABLE;
-            table[i] = change;
-            lines.extend([state_line(&STATE), words_line(&table)]);
-            lines.extend(probes());
-        }
-    }
-    lines
+    probed(each_change(TABLE).into_iter().map(|table| (STATE, table.to_vec())))
 }
 
 fn each_number_of_the_state() -> Vec<String> {
-    let mut lines = vec![opening()];
-    for i in 0..STATE.len() {
-        for change in changes(STATE[i]) {
-            let mut state = STATE;
-            state[i] = change;
-            lines.extend([words_line(&TABLE), state_line(&state)]);
-            lines.extend(probes());
-        }
-    }
-    lines
+    probed(each_change(STATE.numbers()).into_iter().map(|state| (State::of(state), TABLE.to_vec())))
 }
 
 /// The table cut short or with zero words behind it: sound from 24 words on, at multiples of 3.
 fn each_length_of_a_table() -> Vec<String> {
-    let mut lines = vec![opening()];
-    for length in (0..48).chain([3_069, 3_070, 3_072, 3_073, 3_075, MOST_WORDS]) {
+    let lengths = (0..48).chain([3_069, 3_070, 3_072, 3_073, 3_075, MOST_WORDS]);
+    probed(lengths.map(|length| {
         let mut table = TABLE.to_vec();
         table.resize(length, 0);
-        lines.extend([state_line(&STATE), words_line(&table)]);
-        lines.extend(probes());
+        (STATE, table)
+    }))
+}
+
+/// Each way to choose `count` of these.
+fn choices(of: &[u64], count: usize) -> Vec<Vec<u64>> {
+    if count == 0 {
+        return vec![vec![]];
     }
+    let with = |rest: Vec<u64>| of.iter().map(move |one| [&rest[..], &[*one]].concat()).collect::<Vec<_>>();
+    choices(of, count - 1).into_iter().flat_map(with).collect()
+}
+
+/// Entries of these sizes and kinds, one behind the other, in a table of 4; the first one is released. Sums go round at 2^64.
+fn in_a_row(page: u64, sizes: &[u64], kinds: &[u64]) -> [String; 4] {
+    let mut table = [0; 4 * ENTRY_WORDS];
+    let mut end: u64 = 0;
+    for (words, (size, kind)) in table.chunks_mut(ENTRY_WORDS).zip(sizes.iter().zip(kinds)) {
+        words.copy_from_slice(&[end, *size, *kind]);
+        end = end.wrapping_add(*size);
+    }
+    let state = State { page, limit: LARGEST_LIMIT, end, count: sizes.len() as u64 };
+    [state_line(&state), words_line(&table), format!("release 0 {}", sizes[0]), show_words()]
+}
+
+/// Each table of up to three entries of any kinds, with sizes at a page's edges, whose end is a page's border: few are sound, and some
+/// others break one rule alone.
+fn each_small_table(page: u64) -> Vec<String> {
+    let edges = [1, page - 1, page, page + 1, 1 << 63];
+    let mut lines = vec![opening()];
+    for count in 1..=3 {
+        let ends_at_a_border = |sizes: &Vec<u64>| sizes.iter().fold(0u64, |end, size| end.wrapping_add(*size)) % page == 0;
+        for sizes in choices(&edges, count).into_iter().filter(ends_at_a_border) {
+            lines.extend(choices(&[1, 2, 3, 4, 5, 6], count).iter().flat_map(|kinds| in_a_row(page, &sizes, kinds)));
+        }
+    }
+    lines
+}
+
+/// The largest table with all entries taken, 512 pages of a small piece and a free rest: calls that need an entry more, and calls that need
+/// none.
+fn largest_table() -> Vec<String> {
+    let table: Vec<u64> = (0..512).map(|i| 512 * i).flat_map(|at| [at, 300, 1, at + 300, 212, 4]).collect();
+    let calls = [
+        "allocate metadata 213",
+        "allocate metadata 211",
+        "allocate raw 1",
+        "allocate raw 512",
+        "shorten 0 300 1",
+        "extend 0 299 1",
+        "allocate metadata 212",
+        "shorten 300 212 1",
+        "release 512 300",
+        "allocate raw 1024",
+        "extend 262144 1024 1",
+        "extend 262144 1024 512",
+        "allocate raw 513",
+        "allocate raw 512",
+        "list metadata 1020",
+        "list metadata 1019",
+    ];
+    let mut lines = vec!["open 512 1048576 1024".to_string(), state_line(&State::of([512, 1_048_576, 262_144, 1_024])), words_line(&table)];
+    lines.extend(calls.iter().flat_map(|call| [call.to_string(), show_words()]));
     lines
 }
 
@@ -83,11 +138,16 @@ fn messages() -> [Vec<u8>; 2] {
     [bytes_of(&persistent), bytes_of(&plain)]
 }
 
+/// What a byte of a message is changed to: the version, the strategy and persist to anything.
+fn byte_changes(i: usize, byte: u8) -> Vec<u8> {
+    if i < 3 { (0..=255).collect() } else { vec![byte ^ 1, byte ^ 0x80, !byte] }
+}
+
 fn each_byte_of_a_message() -> Vec<String> {
     let mut lines = vec![opening()];
     for message in messages() {
         for i in 0..LENGTH {
-            for change in [message[i] ^ 1, message[i] ^ 0x80, !message[i]] {
+            for change in byte_changes(i, message[i]) {
                 let mut damaged = message.clone();
                 damaged[i] = change;
                 lines.push(format!("read {}", hex_of(&damaged)));
@@ -111,8 +171,8 @@ fn edges_of_lines() -> Vec<String> {
     let call = "allocate raw 1";
     let padded = |length: usize| call.to_string() + &" ".repeat(length - call.len());
     let zeros = |count: usize| words_line(&vec![0; count]);
-    let look = || "show words".to_string();
-    let mut lines = vec![opening(), padded(LONGEST_LINE), look(), padded(LONGEST_LINE + 1), look(), padded(3 * LONGEST_LINE), look()];
-    lines.extend([zeros(MOST_WORDS), zeros(MOST_WORDS + 1), look(), "words".to_string(), look(), opening()]);
-    lines
+    let padded_lines = [LONGEST_LINE, LONGEST_LINE + 1, 3 * LONGEST_LINE].map(padded);
+    let edges = padded_lines.into_iter().chain([zeros(MOST_WORDS), zeros(MOST_WORDS + 1), "words".to_string()]);
+    let looked_at = edges.flat_map(|line| [line, show_words()]);
+    [opening()].into_iter().chain(looked_at).chain([opening()]).collect()
 }
