@@ -21,13 +21,13 @@ use Rattle.pieces.specs.declared.Class.the-variants.{Large}
 use Rattle.pieces.specs.declared.Status.{Status}
 use Rattle.pieces.specs.declared.Status.the-variants.{Live, Free}
 use Rattle.pieces.specs.declared.Piece.{Piece}
-use Rattle.pieces.specs.Pieces.{piece, behind, Small, EntryIs, entry-here, entry-later}
+use Rattle.pieces.specs.Pieces.{piece, behind, freeOf, Small, EntryIs, entry-here, entry-later}
 use Rattle.pieces.specs.Words.{entryAt, entries}
 use Rattle.pieces.proofs.PieceLaws.{same-class, class-same}
 use Rattle.table.specs.Sound.{Tiles, tile}
 use Rattle.choose.specs.declared.Place.{Place}
 use Rattle.choose.specs.declared.Place.the-variants.{At, Nothing}
-use Rattle.choose.specs.Choose.{roomIn, freeOf, fitsIn, better, bestOf, best}
+use Rattle.choose.specs.Choose.{roomIn, fitsIn, better, bestOf, best}
 use Rattle.choose.specs.Choose.{Best, OneBest, NoneEmpty, BestPlace, FitsSmall, FitsLarge, SmallPlace, LargePlace}
 use Rattle.choose.proofs.ChooseLaws.{room-small}
 

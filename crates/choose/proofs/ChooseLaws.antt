@@ -1,6 +1,6 @@
 -- The laws of what fits, and of the walk for the best place.
 --
--- In this order: room, by the tests that the code makes; what fits, by the entry's status; an entry that fits has the bytes; the walk's
+-- In this order: room, by the tests that the code makes; what fits, by whether the entry is free and of the class; an entry that fits has the bytes; the walk's
 -- step, its end, and that an exact fit stays the best.
 --
 -- Not here: that the walk finds the best place (BestLaws.antt). Assumes nothing.
@@ -16,14 +16,13 @@ use Rattle.pages.proofs.Numbers.{leb-same, and-right}
 use Rattle.pages.proofs.PageLaws.{up-ge, upFrom-up}
 use Rattle.pieces.specs.declared.Class.{Class}
 use Rattle.pieces.specs.declared.Class.the-variants.{SmallMetadata, SmallRaw, Large}
-use Rattle.pieces.specs.declared.Status.the-variants.{Live, Free}
 use Rattle.pieces.specs.declared.Piece.{Piece}
-use Rattle.pieces.specs.Pieces.{sameClass, Small, metadata, raw}
+use Rattle.pieces.specs.Pieces.{freeOf, Small, metadata, raw}
 use Rattle.pieces.specs.Words.{entryAt, entries}
 use Rattle.pieces.proofs.WordLaws.{entries-next, entries-none}
 use Rattle.choose.specs.declared.Place.{Place}
 use Rattle.choose.specs.declared.Place.the-variants.{At}
-use Rattle.choose.specs.Choose.{roomIn, freeOf, fitsIn, better, bestOf, best}
+use Rattle.choose.specs.Choose.{roomIn, fitsIn, better, bestOf, best}
 
 -- ---- room
 
@@ -57,17 +56,13 @@ module _ (P : ℕ) (pos : 0 < P) (s a z : ℕ) where
 -- ---- what fits
 
 module _ (P : ℕ) (k : Class) (s : ℕ) (x : Piece) where
-  pub fits-live : {c : Class} → x .status ≡ Live c → fitsIn P k s x ≡ false
+  pub fits-other : freeOf k (x .status) ≡ false → fitsIn P k s x ≡ false
   unfolding fitsIn
-  fits-live e = rw e
+  fits-other e = rw e
 
-  pub fits-other : {c : Class} → x .status ≡ Free c → sameClass c k ≡ false → fitsIn P k s x ≡ false
+  pub fits-free : freeOf k (x .status) ≡ true → fitsIn P k s x ≡ roomIn P k s (x .address) (x .size)
   unfolding fitsIn
-  fits-other e d = rw (e, d)
-
-  pub fits-free : {c : Class} → x .status ≡ Free c → sameClass c k ≡ true → fitsIn P k s x ≡ roomIn P k s (x .address) (x .size)
-  unfolding fitsIn
-  fits-free e d = rw (e, d)
+  fits-free e = rw e
 
   pub fits-least : 0 < P → fitsIn P k s x ≡ true → s ≤ x .size
   unfolding fitsIn

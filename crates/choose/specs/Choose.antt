@@ -1,7 +1,6 @@
 -- The best place for a piece, as a walk over the entries finds it and as document 01 says it.
 --
 --   roomIn P k s a z       s bytes of class k have room in z bytes at a: a large piece goes to the first multiple of P not below a
---   freeOf k t             the status t is free, and of class k
 --   fitsIn P k s x         the entry x is free, of class k, and has room for s bytes
 --   better z b             z bytes are fewer than those of the best place b so far
 --   bestOf fits i b x      the best place so far, of b and of entry i, which is x, if that fits
@@ -20,17 +19,16 @@
 --
 -- Assumes nothing. `BestPlace`, `SmallPlace` and `LargePlace` are proved in proofs/BestLaws.antt; laws of the walk are in proofs/ChooseLaws.antt.
 use mathlib.Core.Path.{_≡_}
-use mathlib.Core.Bool.{Bool, true, false, cond, _&&_}
+use mathlib.Core.Bool.{Bool, true, cond, _&&_}
 use mathlib.Core.List.{List, [], _∷_, List·Memᴰ}
 use Prim.Native.Nat.{ℕ, _+_, _≤_, _<_}
 use lib.Dec.{leb, ltb}
 use Rattle.pages.specs.Pages.{up, FirstBorder}
 use Rattle.pieces.specs.declared.Class.{Class}
 use Rattle.pieces.specs.declared.Class.the-variants.{SmallMetadata, SmallRaw, Large}
-use Rattle.pieces.specs.declared.Status.{Status}
-use Rattle.pieces.specs.declared.Status.the-variants.{Live, Free}
+use Rattle.pieces.specs.declared.Status.the-variants.{Free}
 use Rattle.pieces.specs.declared.Piece.{Piece}
-use Rattle.pieces.specs.Pieces.{behind, sameClass, Small, EntryIs}
+use Rattle.pieces.specs.Pieces.{behind, freeOf, Small, EntryIs}
 use Rattle.table.specs.Sound.{Tiles}
 use Rattle.choose.specs.declared.Place.{Place}
 use Rattle.choose.specs.declared.Place.the-variants.{At, Nothing}
@@ -41,10 +39,6 @@ unfoldable pub roomIn : ℕ → Class → ℕ → ℕ → ℕ → Bool
 roomIn P SmallMetadata s a z = leb s z
 roomIn P SmallRaw s a z = leb s z
 roomIn P Large s a z = leb (up P a + s) (a + z)
-
-abbrev pub freeOf : Class → Status → Bool
-freeOf k (Live c) = false
-freeOf k (Free c) = sameClass c k
 
 unfoldable pub fitsIn : ℕ → Class → ℕ → Piece → Bool
 fitsIn P k s x = freeOf k (x .status) && roomIn P k s (x .address) (x .size)

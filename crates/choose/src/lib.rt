@@ -9,7 +9,7 @@ ghost use Rattle.pieces.specs.Words.{entryWords, entries};
 ghost use Rattle.choose.specs.Choose.{roomIn, fitsIn, better, best};
 use pieces::Class;
 use pieces::Piece;
-use pieces::Status;
+use pieces::kind;
 
 // An entry's number with its piece, or nothing where none fits.
 pub enum Place {
@@ -36,23 +36,6 @@ fn room(p: u64, class: Class, s: u64, address: u64, size: u64) -> bool
     }
 }
 
-// Whether a piece is a free entry of the class with room for s bytes.
-fn fits(p: u64, class: Class, s: u64, piece: Piece) -> bool
-    requires { ⌜ 0 < p ⌝ }
-    ensures { λ r. ⌜ r ≡ fitsIn p class s piece ⌝ }
-{
-    let status = piece.status;
-    match status {
-        Status::Live(_) => false,
-        Status::Free(c) => {
-            if pieces::same_class(c, class) {
-                return room(p, class, s, piece.address, piece.size);
-            }
-            false
-        }
-    }
-}
-
 // Whether an entry of this size is better than the best so far.
 fn beats(size: u64, held: Place) -> bool
     ensures { λ r. ⌜ r ≡ better size held ⌝ }
@@ -75,14 +58,16 @@ pub fn best_place(p: u64, class: Class, s: u64, n: usize, table: &[u64]) -> Plac
         if n <= i {
             break 'walk;
         }
-        let piece = pieces::piece_at(table, i);
-        // What is no better is not asked for its room, which can cost a division.
-        if beats(piece.size, held) {
-            if fits(p, class, s, piece) {
-                held = Place::At(i, piece);
-                // An exact fit cannot be beaten, and the walk goes up, so the first one is the lowest.
-                if piece.size == s {
-                    break 'walk;
+        let entry = pieces::words_at(table, i);
+        if kind::is_free_of(entry.kind, class) {
+            // What is no better is not asked for its room, which can cost a division.
+            if beats(entry.size, held) {
+                if room(p, class, s, entry.address, entry.size) {
+                    held = Place::At(i, pieces::piece_of(entry));
+                    // An exact fit cannot be beaten, and the walk goes up, so the first one is the lowest.
+                    if entry.size == s {
+                        break 'walk;
+                    }
                 }
             }
         }

@@ -1,15 +1,16 @@
 -- Laws of the tests on kind words: what `kind` computes from the word is what `statusOf` says of it.
 --
--- In this order: free; the live kind of the same class; small; of one class; free large.
+-- In this order: free; the live kind of the same class; small; of one class; free large; free and of a class, of any word.
 --
 -- Assumes nothing.
 use Prim.Native.Nat.{ℕ, _-_, _≤_, _<_}
-use mathlib.Core.Bool.{true, false, cond}
-use mathlib.Core.Path.{_≡_, refl, _∙_}
+use mathlib.Core.Bool.{Bool, true, false, cond, not}
+use mathlib.Core.Path.{_≡_, refl, sym, ap, _∙_}
 use lib.Dec.{ltb, eqb}
-use borrow.Author.Tests.{lt-ltb, le-ltb}
-use Rattle.pieces.proofs.PieceLaws.{kind-status}
-use Rattle.pieces.specs.Pieces.{classOf, smallb, freeb, sameClass, largeFreeb, kindOf, Kind, statusOf}
+use borrow.Author.Tests.{lt-ltb, le-ltb, ne-eqb}
+use Rattle.pages.proofs.Numbers.{not-both}
+use Rattle.pieces.proofs.PieceLaws.{same-class, class-same, kind-true, status-kind, kind-status}
+use Rattle.pieces.specs.Pieces.{classOf, smallb, freeb, sameClass, largeFreeb, freeOf, Small, metadata, raw, kindOf, Kind, kindb, statusOf}
 use Rattle.pieces.specs.declared.Class.the-variants.{SmallMetadata, SmallRaw, Large}
 use Rattle.pieces.specs.declared.Class.{Class}
 use Rattle.pieces.specs.declared.Status.the-variants.{Live, Free}
@@ -87,3 +88,46 @@ large-free-small k h = none-small (statusOf k) h
 
 pub large-free-large : (k : ℕ) → smallb (classOf (statusOf k)) ≡ false → largeFreeb (statusOf k) ≡ freeb (statusOf k)
 large-free-large k h = free-large (statusOf k) h
+
+-- ---- free, and of a class
+
+-- a word that is no kind reads as free large
+pub no-kind-status : (k : ℕ) → kindb k ≡ false → statusOf k ≡ Free Large
+unfolding statusOf
+no-kind-status k h = simp (other 1 refl, other 2 refl, other 3 refl, other 4 refl, other 5 refl)
+  where
+    other : (j : ℕ) → kindb j ≡ true → eqb k j ≡ false
+    other j e = ne-eqb k j (λ q. not-both e (sym (ap kindb q) ∙ h))
+
+pub free-of-kind : (k : ℕ) (c : Class) → k ≡ kindOf (Free c) → freeOf c (statusOf k) ≡ true
+free-of-kind k c e = rw (e, status-kind (Free c)) (class-same c c refl)
+
+other-free : (s : Status) (c : Class) → (kindOf s ≡ kindOf (Free c) → ⊥) → freeOf c s ≡ false
+other-free (Live d) c h = refl
+other-free (Free d) c h = go (sameClass d c) refl
+  where
+    go : (t : Bool) → sameClass d c ≡ t → t ≡ false
+    go true e = absurd (h (ap (λ (x : Class). kindOf (Free x)) (same-class d c e)))
+    go false e = refl
+
+pub free-of-other : (k : ℕ) (c : Class) → kindb k ≡ true → (k ≡ kindOf (Free c) → ⊥) → freeOf c (statusOf k) ≡ false
+free-of-other k c h n = other-free (statusOf k) c (λ e. n (sym (kind-status k (kind-true k h)) ∙ e))
+
+large-is-not : {c : Class} → Small c → sameClass Large c ≡ false
+large-is-not metadata = refl
+large-is-not raw = refl
+
+-- of a small class it needs no kind: what is none reads as large
+pub free-of-small : (k : ℕ) {c : Class} → Small c → (k ≡ kindOf (Free c) → ⊥) → freeOf c (statusOf k) ≡ false
+free-of-small k {c} t n = go (kindb k) refl
+  where
+    go : (b : Bool) → kindb k ≡ b → freeOf c (statusOf k) ≡ false
+    go true e = free-of-other k c e n
+    go false e = rw (no-kind-status k e) (large-is-not t)
+
+pub free-of-large : (k : ℕ) → (k ≡ kindOf (Free Large) → ⊥) → freeOf Large (statusOf k) ≡ not (kindb k)
+free-of-large k n = go (kindb k) refl
+  where
+    go : (b : Bool) → kindb k ≡ b → freeOf Large (statusOf k) ≡ not b
+    go true e = free-of-other k Large e n
+    go false e = rw (no-kind-status k e)

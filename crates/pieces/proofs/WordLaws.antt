@@ -14,11 +14,12 @@ use lib.ListN.{length, getD, take, drop, set, replicate, length-append, length-r
 use lib.Seq.{drop-cons, ext-getD, getD-drop, take-at, drop-at, drop-drop, sets-eq, length-take-le, take-suc, getD-append-add}
 use Rattle.pieces.proofs.PieceLaws.{status-kind, kind-status}
 use Rattle.pieces.specs.Pieces.{kindOf, Kind}
-use Rattle.pieces.specs.Words.{entryWords, kindAt, entryAt, entries, words, table, laid, Zeros, EntriesOfTable, TableOfEntries}
+use Rattle.pieces.specs.Words.{entryWords, kindAt, wordsAt, pieceOf, entryAt, entries, words, table, laid, Zeros, EntriesOfTable, TableOfEntries}
 use Rattle.pieces.specs.declared.Class.the-variants.{SmallMetadata, SmallRaw, Large}
 use Rattle.pieces.specs.declared.Piece.{Piece}
 use Rattle.pieces.specs.declared.Status.the-variants.{Live, Free}
 use Rattle.pieces.specs.declared.Status.{Status}
+use Rattle.pieces.specs.declared.Words.{Words}
 
 -- ---- lengths
 
@@ -37,6 +38,11 @@ length-entries w i zero = refl
 length-entries w i (suc k) = ap suc (length-entries w (suc i) k)
 
 -- ---- a walk's next entry
+
+-- an entry is the piece that its words say
+pub entry-said : (w : List ℕ) (i : ℕ) (u : Words) → u ≡ wordsAt w i → entryAt w i ≡ pieceOf u
+unfolding entryAt
+entry-said w i u is = ap pieceOf (sym is)
 
 pub entries-next : (w : List ℕ) (n i : ℕ) → i < n → entries w i (n - i) ≡ entryAt w i ∷ entries w (i + 1) (n - (i + 1))
 unfolding entries

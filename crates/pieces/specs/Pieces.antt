@@ -7,6 +7,7 @@
 --   IsFree s           s is free; freeb s is the test
 --   sameClass c d      the test whether c and d are one class
 --   largeFreeb s       the test whether s is free large
+--   freeOf c s         the test whether s is free, and of class c
 --   kindOf s           the kind of a status, 1 to 6
 --   Kind k             k is a kind; kindb k is the test
 --   statusOf k         the status of a kind; a word that is no kind, which no sound table has, reads as 6
@@ -63,6 +64,10 @@ sameClass Large Large = true
 abbrev pub largeFreeb : Status → Bool
 largeFreeb (Live c) = false
 largeFreeb (Free c) = not (smallb c)
+
+abbrev pub freeOf : Class → Status → Bool
+freeOf k (Live c) = false
+freeOf k (Free c) = sameClass c k
 
 abbrev pub kindOf : Status → ℕ
 kindOf (Live SmallMetadata) = 1

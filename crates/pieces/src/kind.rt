@@ -2,7 +2,11 @@
 // Kinds 1 to 3 are live, and the kinds 4 to 6 are the same classes free. Large is the last class.
 ghost use mathlib.Core.Path.{_≡_};
 ghost use Rattle.pieces.specs.declared.Status.the-variants.{Live};
-ghost use Rattle.pieces.specs.Pieces.{classOf, smallb, freeb, sameClass, largeFreeb, kindOf, Kind, statusOf};
+ghost use Rattle.pieces.specs.Pieces.{classOf, smallb, freeb, sameClass, largeFreeb, freeOf, kindOf, Kind, statusOf};
+use crate::Class;
+use crate::Status;
+use crate::is_kind;
+use crate::kind_of;
 
 const CLASSES: u64 = 3;
 
@@ -50,4 +54,18 @@ pub fn is_large_free(kind: u64) -> bool
         return false;
     }
     is_free(kind)
+}
+
+// Whether a word reads as free and of this class, whatever it says: what is no kind reads as free large.
+pub fn is_free_of(kind: u64, class: Class) -> bool
+    ensures { λ r. ⌜ r ≡ freeOf class (statusOf kind) ⌝ }
+{
+    if kind == kind_of(Status::Free(class)) {
+        return true;
+    }
+    match class {
+        Class::SmallMetadata => false,
+        Class::SmallRaw => false,
+        Class::Large => !is_kind(kind),
+    }
 }

@@ -10,7 +10,7 @@ ghost use mathlib.Core.List.{[], _∷_};
 ghost use Prim.Native.Nat.{_+_, _*_, _≤_};
 ghost use lib.ListN.{length};
 ghost use Rattle.pieces.specs.Pieces.{classOf, freeb, sameClass, largeFreeb, kindOf, kindb, statusOf};
-ghost use Rattle.pieces.specs.Words.{entryWords, kindAt, wordsAt, entryAt, laid};
+ghost use Rattle.pieces.specs.Words.{entryWords, kindAt, wordsAt, pieceOf, entryAt, laid};
 
 pub enum Class {
     SmallMetadata,
@@ -163,17 +163,23 @@ pub fn words_at(table: &[u64], i: usize) -> Words
     }
 }
 
-// Entry i.
-pub fn piece_at(table: &[u64], i: usize) -> Piece
-    requires { ⌜ (i + 1) * entryWords ≤ length (now table) ⌝ }
-    ensures { λ r. ⌜ r ≡ entryAt (now (table .entry)) i ⌝ }
+// The piece that three words say.
+pub fn piece_of(words: Words) -> Piece
+    ensures { λ r. ⌜ r ≡ pieceOf words ⌝ }
 {
-    let words = words_at(table, i);
     Piece {
         address: words.address,
         size: words.size,
         status: status_of(words.kind),
     }
+}
+
+// Entry i.
+pub fn piece_at(table: &[u64], i: usize) -> Piece
+    requires { ⌜ (i + 1) * entryWords ≤ length (now table) ⌝ }
+    ensures { λ r. ⌜ r ≡ entryAt (now (table .entry)) i ⌝ }
+{
+    piece_of(words_at(table, i))
 }
 
 // Entry i becomes this piece; every other word stays.

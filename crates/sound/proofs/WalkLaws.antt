@@ -17,7 +17,7 @@ use borrow.Author.Tests.{le-leb, lt-leb, lt-ltb, le-ltb, eq-eqb, ne-eqb}
 use Rattle.pages.proofs.Numbers.{split, leb-same, and-false, not-both}
 use Rattle.pages.proofs.PageLaws.{decBorder, true-border, false-border, left-down, left-of, left-full, left-within, left-exact, left-beyond}
 use Rattle.pages.specs.Pages.{pageSizeb, borderb, down, left}
-use Rattle.pieces.proofs.WordLaws.{entries-next, entries-none}
+use Rattle.pieces.proofs.WordLaws.{entry-said, entries-next, entries-none}
 use Rattle.pieces.proofs.PieceLaws.{kind-true, status-kind}
 use Rattle.pieces.specs.Pieces.{classOf, smallb, freeb, sameClass, largeFreeb, kindOf, kindb, statusOf}
 use Rattle.pieces.specs.Words.{entryWords, kindAt, wordsAt, pieceOf, entryAt, entries}
@@ -219,22 +219,18 @@ module _ (P E : ℕ) (w : List ℕ) (n i : ℕ) (s : Status) (a : ℕ) where
   chain-next h = rw (entries-next w n i h, last-entry w n i h)
 
   module _ (u : Words) (is : u ≡ wordsAt w i) (h : i < n) where
-    entry-said : entryAt w i ≡ pieceOf u
-    unfolding entryAt
-    entry-said = ap pieceOf (sym is)
-
     kind-said : kindAt w i ≡ u .kind
     kind-said = ap (λ (t : Words). t .kind) (sym is)
 
     rest-next : kindb (u .kind) ≡ true → entryb P E s a (pieceOf u) (eqb (i + 1) n) ≡ true
         → rest P E w n i s a ≡ rest P E w n (i + 1) (statusOf (u .kind)) (a + u .size)
-    rest-next k e = rw (kinds-next h, chain-next h, kind-said, entry-said, k, e)
+    rest-next k e = rw (kinds-next h, chain-next h, kind-said, entry-said w i u is, k, e)
 
     rest-no-kind : kindb (u .kind) ≡ false → rest P E w n i s a ≡ false
     rest-no-kind k = rw (kinds-next h, kind-said, k)
 
     rest-broken : entryb P E s a (pieceOf u) (eqb (i + 1) n) ≡ false → rest P E w n i s a ≡ false
-    rest-broken e = and-false (kindsb w i (n - i)) (chain-next h ∙ rw (entry-said, e))
+    rest-broken e = and-false (kindsb w i (n - i)) (chain-next h ∙ rw (entry-said w i u is, e))
 
   pub rest-end : n ≤ i → rest P E w n i s a ≡ eqb a E
   unfolding kindsb chainb

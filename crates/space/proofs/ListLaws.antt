@@ -4,7 +4,7 @@
 --   written k w i v           the words v with the pairs of those sections in front
 --   Writing k w i v out at    the loop that writes into v has passed i entries: out is what v is now, and at is behind the last pair
 --
--- In this order: which codes are managers, and their classes (manager, class); which statuses are free (free); one entry more (passed, count);
+-- In this order: which codes are managers, and their classes (manager, class); one entry more (passed, count);
 -- how many sections there can be (few); one pair more (writing); the whole call, refused and done (listed).
 --
 -- Not here: laws of lists (lib.ListN, lib.Seq), and of a table's entries (pieces' WordLaws). Assumes nothing.
@@ -19,15 +19,12 @@ use lib.Dec.{eqb}
 use lib.ListN.{length, drop, set, length-append, length-drop, length-set}
 use lib.Seq.{take-at, drop-at, drop-drop, sets-eq}
 use borrow.Author.Tests.{eq-eqb, ne-eqb, le-ltb, lt-ltb}
-use Rattle.choose.specs.Choose.{freeOf}
 use Rattle.pieces.proofs.WordLaws.{entries-append, length-entries}
-use Rattle.pieces.specs.Pieces.{sameClass}
+use Rattle.pieces.specs.Pieces.{freeOf}
 use Rattle.pieces.specs.Words.{entryWords, entryAt, entries}
 use Rattle.pieces.specs.declared.Class.the-variants.{SmallMetadata, SmallRaw, Large}
 use Rattle.pieces.specs.declared.Class.{Class}
 use Rattle.pieces.specs.declared.Piece.{Piece}
-use Rattle.pieces.specs.declared.Status.the-variants.{Live, Free}
-use Rattle.pieces.specs.declared.Status.{Status}
 use Rattle.space.specs.Answers.{notSound, unknownCode, sliceTooShort, soundb}
 use Rattle.space.specs.Listing.{largeCode, managerb, classOfManager, sections, pairWords, pairs, refusingList, listedAs, listed}
 use Rattle.space.specs.Placing.{metadataCode, rawCode}
@@ -58,12 +55,6 @@ module _ (m : ℕ) where
   pub class-large : (m ≡ metadataCode → ⊥) → (m ≡ rawCode → ⊥) → classOfManager m ≡ Large
   unfolding classOfManager
   class-large n1 n2 = rw (ne-eqb m metadataCode n1, ne-eqb m rawCode n2)
-
-pub live-not-free : (k c : Class) (t : Status) → t ≡ Live c → freeOf k t ≡ false
-live-not-free k c t h = rw h
-
-pub free-by-class : (k c : Class) (t : Status) → t ≡ Free c → freeOf k t ≡ sameClass c k
-free-by-class k c t h = rw h
 
 -- ---- one entry more
 

@@ -17,7 +17,7 @@ use lib.ListN.{length, drop}
 use Rattle.pieces.specs.declared.Class.{Class}
 use Rattle.pieces.specs.declared.Class.the-variants.{SmallMetadata, SmallRaw, Large}
 use Rattle.pieces.specs.declared.Piece.{Piece}
-use Rattle.choose.specs.Choose.{freeOf}
+use Rattle.pieces.specs.Pieces.{freeOf}
 use Rattle.space.specs.declared.Space.{Space}
 use Rattle.space.specs.Answers.{notSound, unknownCode, sliceTooShort, soundb, entriesOf}
 use Rattle.space.specs.Placing.{metadataCode, rawCode}

@@ -4,7 +4,6 @@ ghost use mathlib.Core.List.{_++_};
 ghost use Prim.Native.Nat.{_*_, _≤_};
 ghost use lib.ListN.{length, drop};
 ghost use Rattle.pieces.specs.Words.{entryWords, entries};
-ghost use Rattle.choose.specs.Choose.{freeOf};
 ghost use Rattle.space.specs.Listing.{managerb, classOfManager, sections, pairWords, pairs, listed};
 ghost use Rattle.space.specs.Said.{listSaid};
 use crate::Space;
@@ -13,21 +12,11 @@ use crate::answers::Listed;
 use crate::place::METADATA;
 use crate::place::RAW;
 use pieces::Class;
-use pieces::Status;
+use pieces::kind;
 
 const PAIR_WORDS: usize = 2;
 
 const LARGE: u64 = 3;
-
-// Whether a status is free and of a class.
-fn is_section(class: Class, status: Status) -> bool
-    ensures { λ r. ⌜ r ≡ freeOf class status ⌝ }
-{
-    match status {
-        Status::Live(_) => false,
-        Status::Free(c) => pieces::same_class(c, class),
-    }
-}
 
 // How many of the first n entries are free and of a class.
 fn count_sections(class: Class, n: usize, table: &[u64]) -> usize
@@ -38,9 +27,8 @@ fn count_sections(class: Class, n: usize, table: &[u64]) -> usize
     let mut i: usize = 0;
     // `count` is how many there are among the first i.
     while i < n {
-        let piece = pieces::piece_at(table, i);
-        let status = piece.status;
-        if is_section(class, status) {
+        let entry = pieces::words_at(table, i);
+        if kind::is_free_of(entry.kind, class) {
             count = count + 1;
         }
         i = i + 1;
@@ -57,11 +45,10 @@ fn write_sections(class: Class, n: usize, table: &[u64], out: &mut [u64])
     let mut i: usize = 0;
     // The pairs of those among the first i entries stand in front of `at`, and from there on all is as it came.
     while i < n {
-        let piece = pieces::piece_at(table, i);
-        let status = piece.status;
-        if is_section(class, status) {
-            out[at] = piece.address;
-            out[at + 1] = piece.size;
+        let entry = pieces::words_at(table, i);
+        if kind::is_free_of(entry.kind, class) {
+            out[at] = entry.address;
+            out[at + 1] = entry.size;
             at = at + PAIR_WORDS;
         }
         i = i + 1;

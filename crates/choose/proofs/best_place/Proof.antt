@@ -4,14 +4,15 @@
 use Prim.Native.Nat.{_≤_, _-_}
 use mathlib.Core.Bool.{Bool, true}
 use mathlib.Core.Logic.{⊎-elim}
-use mathlib.Core.Path.{_≡_, sym, _∙_}
+use mathlib.Core.Path.{_≡_, sym, ap, _∙_}
 use native.Mathlib.Nat.{sub-zero}
 use borrow.Author.Needs.{needs}
-use Rattle.choose.proofs.ChooseLaws.{best-of-better, best-of-larger, best-of-misfit, best-next, best-end, best-exact, fits-least}
+use Rattle.choose.proofs.ChooseLaws.{best-of-better, best-of-larger, best-of-misfit, best-next, best-end, best-exact, fits-other, fits-free, fits-least}
 use Rattle.choose.specs.Choose.{fitsIn, bestOf, best}
 use Rattle.choose.specs.declared.Place.the-variants.{At, Nothing}
 use Rattle.pieces.specs.declared.Piece.{Piece}
-use Rattle.pieces.specs.Words.{entries}
+use Rattle.pieces.proofs.WordLaws.{entry-said}
+use Rattle.pieces.specs.Words.{pieceOf, entries}
 use Rattle.choose.proofs.best_place.Statement.{statement}
 use Rattle.choose.proofs.best_place.Tie as tie
 
@@ -26,14 +27,20 @@ abbrev μ-walk : tie.MeasureT-walk
 walk-holds : tie.Need-walk-holds Inv-walk μ-walk
 walk-holds c = (search needs, simp sub-zero)
 
-piece-at-requires : tie.Need-piece-at-requires Inv-walk μ-walk
-piece-at-requires c κs = search needs
+words-at-requires : tie.Need-words-at-requires Inv-walk μ-walk
+words-at-requires c κs = search needs
+
+is-free-of-requires : tie.Need-is-free-of-requires Inv-walk μ-walk
+is-free-of-requires c κs = search needs
 
 beats-requires : tie.Need-beats-requires Inv-walk μ-walk
 beats-requires c κs = search needs
 
-fits-requires : tie.Need-fits-requires Inv-walk μ-walk
-fits-requires c κs = search needs
+room-requires : tie.Need-room-requires Inv-walk μ-walk
+room-requires c κs = search needs
+
+piece-of-requires : tie.Need-piece-of-requires Inv-walk μ-walk
+piece-of-requires c κs = search needs
 
 add-i : tie.Need-add-i Inv-walk μ-walk
 add-i c = search needs
@@ -45,32 +52,37 @@ walk-again : tie.Need-walk-again Inv-walk μ-walk
 walk-again c =
     let a = c .before .before .before .before .before .before .args in
     let k = c .before .before .before .before .walk in
-    let in-table = c .before .before .before .walk-test .left in
-    let read = c .before .before .piece-at in
-    let beat = sym (c .before .beats .ensures) in
-    let to : bestOf (fitsIn (a .p) (a .class) (a .s)) (k .i) (k .held) (read .result) ≡ c .if1 .held =
-    ⊎-elim (λ w. best-of-better _ _ _ _ (sym (w .1 .ensures) ∙ w .2 .taken) (beat ∙ w .0 .taken) ∙ sym (w .5))
-    (⊎-elim (λ w. best-of-misfit _ _ _ _ (sym (w .1 .ensures) ∙ w .2 .left) ∙ sym (w .3))
-    (λ w. best-of-larger _ _ _ _ (beat ∙ w .0 .left) ∙ sym (w .1))) (c .if1 .came) in
-    (search needs, sym (best-next _ _ _ _ _ in-table _ (read .ensures) _ to) ∙ k .inv .1)
+    let read = c .before .before .words-at in
+    let x : Piece = pieceOf (read .result) in
+    let free = sym (c .before .is-free-of .ensures) in
+    let to : bestOf (fitsIn (a .p) (a .class) (a .s)) (k .i) (k .held) x ≡ c .if1 .held =
+    ⊎-elim
+    (λ w. best-of-better _ _ _ x (fits-free _ _ _ x (free ∙ w .0 .taken) ∙ (sym (w .3 .ensures) ∙ w .4 .taken)) (sym (w .1 .ensures) ∙ w .2 .taken)
+    ∙ (ap (At (k .i)) (sym (w .5 .ensures)) ∙ sym (w .8)))
+    (⊎-elim (λ w. best-of-misfit _ _ _ x (fits-free _ _ _ x (free ∙ w .0 .taken) ∙ (sym (w .3 .ensures) ∙ w .4 .left)) ∙ sym (w .5))
+    (⊎-elim (λ w. best-of-larger _ _ _ x (sym (w .1 .ensures) ∙ w .2 .left) ∙ sym (w .3))
+    (λ w. best-of-misfit _ _ _ x (fits-other _ _ _ x (free ∙ w .0 .left)) ∙ sym (w .1)))) (c .if1 .came) in
+    (search needs, sym (best-next _ _ _ _ _ (c .before .before .before .walk-test .left) x (sym (entry-said _ _ (read .result) (read .ensures))) _ to) ∙ k .inv .1)
 
 returns : tie.Need-returns Inv-walk μ-walk
 returns c = sym (best-end _ _ _ _ _ (c .walk-test .taken)) ∙ c .before .walk .inv .1
 
 returns-2 : tie.Need-returns-2 Inv-walk μ-walk
 returns-2 c =
-    let start = c .before .before .before .before .before .before .before .before .before .before in
+    let start = c .before .before .before .before .before .before .before .before .before .before .before .before .before in
     let a = start .args in
-    let k = c .before .before .before .before .before .before .before .before .walk in
-    let in-table = c .before .before .before .before .before .before .before .walk-test .left in
-    let read = c .before .before .before .before .before .before .piece-at in
-    let beat = sym (c .before .before .before .before .before .beats .ensures) ∙ c .before .before .before .before .if1 .taken in
-    let fit = sym (c .before .before .before .fits2 .ensures) ∙ c .before .before .if2 .taken in
+    let k = c .before .before .before .before .before .before .before .before .before .before .before .walk in
+    let read = c .before .before .before .before .before .before .before .before .before .words-at in
+    let x : Piece = pieceOf (read .result) in
     let f : Piece → Bool = fitsIn (a .p) (a .class) (a .s) in
+    let free = sym (c .before .before .before .before .before .before .before .before .is-free-of .ensures) ∙ c .before .before .before .before .before .before .before .if1 .taken in
+    let beat = sym (c .before .before .before .before .before .before .beats .ensures) ∙ c .before .before .before .before .before .if2 .taken in
+    let fit = fits-free _ _ _ x free ∙ (sym (c .before .before .before .before .room .ensures) ∙ c .before .before .before .if3 .taken) in
     let least : (y : Piece) → f y ≡ true → a .s ≤ y .size = λ y. fits-least _ _ _ y (start .pre .0) in
-    let to : bestOf f (k .i) (k .held) (read .result) ≡ At (k .i) (read .result) = best-of-better _ _ _ _ fit beat in
-    sym (best-exact f (a .s) least (k .i) (read .result) (c .if3 .taken) _ _)
-    ∙ sym (best-next _ _ _ _ _ in-table _ (read .ensures) _ to) ∙ k .inv .1
+    let to : bestOf f (k .i) (k .held) x ≡ At (k .i) x = best-of-better _ _ _ x fit beat in
+    ap (At (k .i)) (c .before .before .piece-of .ensures)
+    ∙ (sym (best-exact f (a .s) least (k .i) x (c .if4 .taken) _ _)
+    ∙ (sym (best-next _ _ _ _ _ (c .before .before .before .before .before .before .before .before .before .before .walk-test .left) x (sym (entry-said _ _ (read .result) (read .ensures))) _ to) ∙ k .inv .1))
 
 pub best-place-spec : {M : Type 1} → statement M
 best-place-spec =
@@ -79,9 +91,11 @@ best-place-spec =
     Inv-walk
     μ-walk
     walk-holds
-    piece-at-requires
+    words-at-requires
+    is-free-of-requires
     beats-requires
-    fits-requires
+    room-requires
+    piece-of-requires
     add-i
     walk-less
     walk-again

@@ -6,6 +6,8 @@ use mathlib.Core.Path.{_≡_, sym, ap, _∙_}
 use native.Mathlib.Omega.{arith}
 use lib.ListN.{length}
 use borrow.Author.Needs.{needs}
+use Rattle.pieces.proofs.WordLaws.{entry-said}
+use Rattle.pieces.specs.Words.{pieceOf}
 use Rattle.space.proofs.ListLaws.{passed, passed-none, passed-few, count-section, count-other}
 use Rattle.space.proofs.list.count_sections.Statement.{statement}
 use Rattle.space.proofs.list.count_sections.Tie as tie
@@ -19,11 +21,11 @@ abbrev μ-loop : tie.MeasureT-loop
 loop-holds : tie.Need-loop-holds Inv-loop μ-loop
 loop-holds c = let a = c .before .args in (search needs, ap length (sym (passed-none (a .class) (a .table .now))))
 
-piece-at-requires : tie.Need-piece-at-requires Inv-loop μ-loop
-piece-at-requires c κs = search needs
+words-at-requires : tie.Need-words-at-requires Inv-loop μ-loop
+words-at-requires c κs = search needs
 
-is-section-requires : tie.Need-is-section-requires Inv-loop μ-loop
-is-section-requires c κs = search needs
+is-free-of-requires : tie.Need-is-free-of-requires Inv-loop μ-loop
+is-free-of-requires c κs = search needs
 
 add-count : tie.Need-add-count Inv-loop μ-loop
 add-count c =
@@ -41,10 +43,11 @@ loop-again : tie.Need-loop-again Inv-loop μ-loop
 loop-again c =
     let a = c .before .before .before .before .before .before .args in
     let l = c .before .before .before .before .loop in
-    let is = c .before .before .piece-at .ensures in
-    let free = sym (c .before .is-section .ensures) in
-    let section = count-section (a .class) (a .table .now) (l .i) _ is in
-    let other = count-other (a .class) (a .table .now) (l .i) _ is in
+    let read = c .before .before .words-at in
+    let is = sym (entry-said (a .table .now) (l .i) (read .result) (read .ensures)) in
+    let free = sym (c .before .is-free-of .ensures) in
+    let section = count-section (a .class) (a .table .now) (l .i) (pieceOf (read .result)) is in
+    let other = count-other (a .class) (a .table .now) (l .i) (pieceOf (read .result)) is in
     let next : c .if1 .count ≡ length (passed (a .class) (a .table .now) (l .i + 1)) =
     ⊎-elim (λ u. u .1 ∙ ap (λ (k : ℕ). k + 1) (l .inv .1) ∙ sym (section (free ∙ u .0 .taken)))
     (λ u. u .1 ∙ l .inv .1 ∙ sym (other (free ∙ u .0 .left))) (c .if1 .came) in
@@ -64,8 +67,8 @@ count-sections-spec =
     Inv-loop
     μ-loop
     loop-holds
-    piece-at-requires
-    is-section-requires
+    words-at-requires
+    is-free-of-requires
     add-count
     add-i
     loop-less

@@ -7,6 +7,8 @@ use mathlib.Core.Path.{_≡_, sym, ap, _∙_}
 use native.Mathlib.Omega.{arith}
 use lib.ListN.{length, length-set}
 use borrow.Author.Needs.{needs}
+use Rattle.pieces.proofs.WordLaws.{entry-said}
+use Rattle.pieces.specs.Words.{pieceOf}
 use Rattle.space.proofs.ListLaws.{written, Writing, writing-none, writing-room, writing-section, writing-other}
 use Rattle.space.specs.Listing.{pairWords}
 use Rattle.space.proofs.list.write_sections.Statement.{statement}
@@ -21,11 +23,11 @@ abbrev μ-loop : tie.MeasureT-loop
 loop-holds : tie.Need-loop-holds Inv-loop μ-loop
 loop-holds c = let a = c .before .before .args in (search needs, writing-none (a .class) (a .table .now) (a .out .now))
 
-piece-at-requires : tie.Need-piece-at-requires Inv-loop μ-loop
-piece-at-requires c κs = search needs
+words-at-requires : tie.Need-words-at-requires Inv-loop μ-loop
+words-at-requires c κs = search needs
 
-is-section-requires : tie.Need-is-section-requires Inv-loop μ-loop
-is-section-requires c κs = search needs
+is-free-of-requires : tie.Need-is-free-of-requires Inv-loop μ-loop
+is-free-of-requires c κs = search needs
 
 -- behind the pairs written there is room for one more
 room : (c : tie.Then1 Inv-loop μ-loop)
@@ -33,11 +35,12 @@ room : (c : tie.Then1 Inv-loop μ-loop)
 room c =
     let a = c .before .before .before .before .before .before .before .args in
     let l = c .before .before .before .before .loop in
-    let free = sym (c .before .is-section .ensures) ∙ c .if1 .taken in
-    let is = c .before .before .piece-at .ensures in
+    let free = sym (c .before .is-free-of .ensures) ∙ c .if1 .taken in
+    let read = c .before .before .words-at in
+    let is = sym (entry-said (a .table .now) (l .i) (read .result) (read .ensures)) in
     let among = c .before .before .before .loop-test .taken in
     let fits = c .before .before .before .before .before .before .before .pre in
-    writing-room (a .class) (a .table .now) (l .i) _ is (a .out .now) (l .out) (l .at) (l .inv .1) free (a .n) among (fits .1)
+    writing-room (a .class) (a .table .now) (l .i) (pieceOf (read .result)) is (a .out .now) (l .out) (l .at) (l .inv .1) free (a .n) among (fits .1)
 
 mul-out : tie.Need-mul-out Inv-loop μ-loop
 mul-out c = omega (arith, room c)
@@ -67,10 +70,11 @@ loop-again : tie.Need-loop-again Inv-loop μ-loop
 loop-again c =
     let a = c .before .before .before .before .before .before .before .args in
     let l = c .before .before .before .before .loop in
-    let is = c .before .before .piece-at .ensures in
-    let free = sym (c .before .is-section .ensures) in
-    let section = writing-section (a .class) (a .table .now) (l .i) _ is (a .out .now) (l .out) (l .at) (l .inv .1) in
-    let other = writing-other (a .class) (a .table .now) (l .i) _ is (a .out .now) (l .out) (l .at) (l .inv .1) in
+    let read = c .before .before .words-at in
+    let is = sym (entry-said (a .table .now) (l .i) (read .result) (read .ensures)) in
+    let free = sym (c .before .is-free-of .ensures) in
+    let section = writing-section (a .class) (a .table .now) (l .i) (pieceOf (read .result)) is (a .out .now) (l .out) (l .at) (l .inv .1) in
+    let other = writing-other (a .class) (a .table .now) (l .i) (pieceOf (read .result)) is (a .out .now) (l .out) (l .at) (l .inv .1) in
     let next : Writing (a .class) (a .table .now) (l .i + 1) (a .out .now) (c .if1 .out) (c .if1 .at) =
     ⊎-elim (λ u. section (free ∙ u .0 .taken) (room (record { before = c .before; if1 = u .0 })) _ (u .1) _ (u .2))
     (λ u. other (free ∙ u .0 .left) _ (u .1) _ (u .2)) (c .if1 .came) in
@@ -93,8 +97,8 @@ write-sections-spec =
     Inv-loop
     μ-loop
     loop-holds
-    piece-at-requires
-    is-section-requires
+    words-at-requires
+    is-free-of-requires
     mul-out
     slice-write-out
     add-out
