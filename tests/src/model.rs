@@ -1,11 +1,14 @@
-//! Document 01's rules for a space, read literally: merge, hand the page over, cut the end.
+//! Document 01's rules for a space, read literally: each rule stands beside the sentence that decides it.
 //!
 //!   State      the four numbers P, M, E, n
 //!   Entry      a piece with its kind, one of the six
-//!   Slip       one of the errors that document 01 says a builder will be drawn to; `Slip::None` is the model
+//!   Slip       one of the errors that document 01 says a builder will be drawn to, or a refusal that writes; `Slip::None` is the model
+//!   is_sound   whether a state and a table keep every rule of a sound table
 //!   Model      a state over a lent table of words, with the calls `open`, `allocate`, `release`, `extend`, `shorten`, `list`
+//!   Draft      the entries and the E that a call would leave; a refused call drops its draft, so it changes nothing
 //!
-//! Nothing here is taken from the library's specs. Sums that could pass 2^64 are over u128.
+//! Written from document 01, and from decisions handed to the writer where it leaves a corner open; the library and its specs were
+//! not read. Sums that could pass 2^64 are over u128. Not here: the File Space Info message.
 
 pub const LEAST_PAGE: u64 = 512;
 pub const LARGEST_PAGE: u64 = 1 << 30;
@@ -90,335 +93,121 @@ pub const SLIPS: [(&str, Slip); 7] = [
     ("refusal-writes-a-word", Slip::RefusalWritesAWord),
 ];
 
+/// The code of the manager for large pieces; `METADATA` and `RAW` are those of the small ones.
+const LARGE: u64 = 3;
+
+/// The kind of a free entry of a class: small metadata, small raw or large.
+fn free_kind(class: u64) -> u64 {
+    match class {
+        METADATA => FREE_METADATA,
+        RAW => FREE_RAW,
+        _ => FREE_LARGE,
+    }
+}
+
 impl Entry {
-    /// Where the entry ends.
+    fn of([address, size, kind]: [u64; ENTRY_WORDS]) -> Entry {
+        Entry { address, size, kind }
+    }
+
+    /// Where the entry ends: the first address behind it.
     pub fn end(&self) -> u128 {
-        self.address as u128 + self.size as u128
+        u128::from(self.address) + u128::from(self.size)
     }
 
     pub fn is_live(&self) -> bool {
-        (LIVE_METADATA..=LIVE_LARGE).contains(&self.kind)
+        [LIVE_METADATA, LIVE_RAW, LIVE_LARGE].contains(&self.kind)
     }
 
     pub fn is_free(&self) -> bool {
-        (FREE_METADATA..=FREE_LARGE).contains(&self.kind)
+        [FREE_METADATA, FREE_RAW, FREE_LARGE].contains(&self.kind)
     }
 
     pub fn is_small(&self) -> bool {
-        [LIVE_METADATA, LIVE_RAW, FREE_METADATA, FREE_RAW].contains(&self.kind)
+        self.class() != LARGE
     }
 
-    /// Whether a byte of the entry lies in the page that starts at `start`.
-    fn touches(&self, page: u64, start: u128) -> bool {
-        (self.address as u128) < start + page as u128 && start < self.end()
+    fn class(&self) -> u64 {
+        match self.kind {
+            LIVE_METADATA | FREE_METADATA => METADATA,
+            LIVE_RAW | FREE_RAW => RAW,
+            _ => LARGE,
+        }
     }
-}
 
-/// The kind of a live piece's bytes once they are free.
-fn freed(kind: u64) -> u64 {
-    kind + 3
-}
-
-/// The start of the page that holds the byte at `at`.
-fn page_start(page: u64, at: u64) -> u128 {
-    (at - at % page) as u128
+    /// Whether a byte of the entry lies in the page of `page` bytes at `border`.
+    fn touches(&self, border: u64, page: u64) -> bool {
+        u128::from(self.address) < u128::from(border) + u128::from(page) && u128::from(border) < self.end()
+    }
 }
 
 /// The entries that a table's first words name, or None where the table has too few words.
 pub fn entries_of(table: &[u64], count: u64) -> Option<Vec<Entry>> {
-    let count = usize::try_from(count).ok()?;
-    if count > table.len() / ENTRY_WORDS {
-        return None;
-    }
-    let entry = |w: &[u64]| Entry { address: w[0], size: w[1], kind: w[2] };
-    Some(table.chunks(ENTRY_WORDS).take(count).map(entry).collect())
+    let words = usize::try_from(count).ok()?.checked_mul(ENTRY_WORDS)?;
+    let entries = table.get(..words)?.chunks_exact(ENTRY_WORDS);
+    Some(entries.map(|words| Entry::of([words[0], words[1], words[2]])).collect())
 }
 
-// Soundness, in the order of document 01's list.
-
-fn page_in_range(page: u64) -> bool {
-    (LEAST_PAGE..=LARGEST_PAGE).contains(&page)
-}
-
-fn limit_in_range(page: u64, limit: u64) -> bool {
-    page <= limit && limit <= LARGEST_LIMIT
-}
-
-fn length_in_range(length: usize) -> bool {
-    length % ENTRY_WORDS == 0 && (LEAST_TABLE..=LARGEST_TABLE).contains(&length)
-}
-
-fn numbers_hold(state: &State, table: &[u64]) -> bool {
-    page_in_range(state.page)
-        && limit_in_range(state.page, state.limit)
-        && state.end % state.page == 0
-        && state.end <= state.limit
-        && length_in_range(table.len())
-        && state.count <= (table.len() / ENTRY_WORDS) as u64
-        && table[state.count as usize * ENTRY_WORDS..].iter().all(|w| *w == 0)
-}
-
-fn entries_tile(end: u64, entries: &[Entry]) -> bool {
-    let mut at: u128 = 0;
-    for e in entries {
-        if !(1..=6).contains(&e.kind) || e.size < 1 || e.address as u128 != at {
-            return false;
-        }
-        at = e.end();
-    }
-    at == end as u128 && (entries.is_empty() == (end == 0))
-}
-
-fn small_lies_in_a_page(page: u64, e: &Entry) -> bool {
-    e.size < page && e.end() <= page_start(page, e.address) + page as u128
-}
-
-/// The page of a small entry holds one family alone, and something live.
-fn page_holds_a_family(page: u64, small: &Entry, entries: &[Entry]) -> bool {
-    let start = page_start(page, small.address);
-    let held: Vec<&Entry> = entries.iter().filter(|e| e.touches(page, start)).collect();
-    let only = |kinds: [u64; 2]| held.iter().all(|e| kinds.contains(&e.kind));
-    (only([LIVE_METADATA, FREE_METADATA]) || only([LIVE_RAW, FREE_RAW])) && held.iter().any(|e| e.is_live())
-}
-
-fn smalls_hold(page: u64, entries: &[Entry]) -> bool {
-    let mut smalls = entries.iter().filter(|e| e.is_small());
-    smalls.all(|e| small_lies_in_a_page(page, e) && page_holds_a_family(page, e, entries))
-}
-
-fn live_larges_hold(page: u64, entries: &[Entry]) -> bool {
-    let mut larges = entries.iter().filter(|e| e.kind == LIVE_LARGE);
-    larges.all(|e| e.address % page == 0 && e.size >= page)
-}
-
-fn neighbours_hold(page: u64, entries: &[Entry]) -> bool {
-    entries.windows(2).all(|two| {
-        let same = two[0].kind == two[1].kind;
-        let in_one_page = page_start(page, two[0].address) == page_start(page, two[1].address);
-        let both_large = same && two[0].kind == FREE_LARGE;
-        let both_small = same && in_one_page && [FREE_METADATA, FREE_RAW].contains(&two[0].kind);
-        !both_large && !both_small
-    })
-}
-
-fn last_holds(page: u64, entries: &[Entry]) -> bool {
-    match entries.last() {
-        Some(last) => !(last.kind == FREE_LARGE && last.size >= page),
-        None => true,
-    }
-}
-
+/// "A table is sound when all of this holds", in the document's order.
 pub fn is_sound(state: &State, table: &[u64]) -> bool {
-    if !numbers_hold(state, table) {
-        return false;
-    }
+    let page = state.page;
+    let in_one_page = |pair: &[Entry]| pair[0].address / page == pair[1].address / page;
     let Some(entries) = entries_of(table, state.count) else {
         return false;
     };
-    entries_tile(state.end, &entries)
-        && smalls_hold(state.page, &entries)
-        && live_larges_hold(state.page, &entries)
-        && neighbours_hold(state.page, &entries)
-        && last_holds(state.page, &entries)
+    is_in_range(page, state.limit, table.len())
+        && numbers_agree(state, table)
+        && entries_tile(state, &entries)
+        && entries.iter().all(|entry| is_small_sound(entry, &entries, page))
+        && entries.iter().all(|entry| is_large_sound(entry, page))
+        && entries.windows(2).all(|pair| !must_be_one(&pair[0], &pair[1], in_one_page(pair)))
+        && entries.last().is_none_or(|last| !(last.kind == FREE_LARGE && last.size >= page))
 }
 
-/// A call at work on the entries of a sound table. Nothing is written to the table until the call is accepted.
-struct Work {
-    page: u64,
-    limit: u64,
-    end: u64,
-    entries: Vec<Entry>,
-    slip: Slip,
+/// "512 <= P <= 1,073,741,824"; "P <= M <= 2^62"; the slice's length is "a multiple of 3 from 12 to 3,072".
+fn is_in_range(page: u64, limit: u64, words: usize) -> bool {
+    (LEAST_PAGE..=LARGEST_PAGE).contains(&page)
+        && (page..=LARGEST_LIMIT).contains(&limit)
+        && (LEAST_TABLE..=LARGEST_TABLE).contains(&words)
+        && words.is_multiple_of(ENTRY_WORDS)
 }
 
-impl Work {
-    /// The first multiple of P not below a.
-    fn up(&self, a: u128) -> u128 {
-        let page = self.page as u128;
-        if self.slip == Slip::BorderByMask {
-            return (a + page - 1) & !(page - 1);
-        }
-        a.div_ceil(page) * page
-    }
+/// "E is a multiple of P and E <= M; n <= C"; "every word after the first 3n is 0".
+fn numbers_agree(state: &State, table: &[u64]) -> bool {
+    let count = state.count as usize;
+    state.end.is_multiple_of(state.page)
+        && state.end <= state.limit
+        && count <= table.len() / ENTRY_WORDS
+        && table[ENTRY_WORDS * count..].iter().all(|word| *word == 0)
+}
 
-    /// Where a piece of s bytes would start in the entry, if the entry is free large and the piece fits.
-    fn large_start(&self, e: &Entry, size: u64) -> Option<u64> {
-        let b = self.up(e.address as u128);
-        let fits = e.kind == FREE_LARGE && b + size as u128 <= e.end();
-        fits.then_some(b as u64)
-    }
+/// "Kinds are 1 to 6 and sizes at least 1. The first entry starts at 0, each next one starts where the former ends, the last ends
+/// at E. n = 0 exactly when E = 0."
+fn entries_tile(state: &State, entries: &[Entry]) -> bool {
+    entries.iter().all(|entry| (entry.is_live() || entry.is_free()) && entry.size >= 1)
+        && entries.first().is_none_or(|first| first.address == 0)
+        && entries.windows(2).all(|pair| u128::from(pair[1].address) == pair[0].end())
+        && entries.last().is_none_or(|last| last.end() == u128::from(state.end))
+        && (state.count == 0) == (state.end == 0)
+}
 
-    /// Among the entries that fit: the smallest, then the lowest.
-    fn best(&self, fitting: Vec<usize>) -> Option<usize> {
-        if self.slip == Slip::FirstFit {
-            return fitting.first().copied();
-        }
-        fitting.into_iter().min_by_key(|i| (self.entries[*i].size, self.entries[*i].address))
-    }
+/// "Entries of kinds 1, 2, 4, 5 are smaller than P and lie within one page. A page touched by one of them holds only kinds 1 and 4,
+/// or only 2 and 5, and holds at least one live entry." An entry of another kind keeps this rule.
+fn is_small_sound(entry: &Entry, entries: &[Entry], page: u64) -> bool {
+    let border = entry.address / page * page;
+    let held = || entries.iter().filter(|other| other.touches(border, page));
+    let is_within = entry.size < page && entry.end() <= u128::from(border) + u128::from(page);
+    !entry.is_small() || (is_within && held().all(|other| other.class() == entry.class()) && held().any(Entry::is_live))
+}
 
-    fn best_large(&self, size: u64) -> Option<usize> {
-        let fits = |i: &usize| self.large_start(&self.entries[*i], size).is_some();
-        self.best((0..self.entries.len()).filter(fits).collect())
-    }
+/// "Kind 3 starts at a multiple of P and has at least P bytes." An entry of another kind keeps this rule.
+fn is_large_sound(entry: &Entry, page: u64) -> bool {
+    entry.kind != LIVE_LARGE || (entry.address.is_multiple_of(page) && entry.size >= page)
+}
 
-    fn best_small(&self, free: u64, size: u64) -> Option<usize> {
-        let fits = |i: &usize| self.entries[*i].kind == free && self.entries[*i].size >= size;
-        self.best((0..self.entries.len()).filter(fits).collect())
-    }
-
-    /// Entry i becomes these entries, but for those with no byte.
-    fn replace(&mut self, i: usize, with: &[Entry]) {
-        self.entries.splice(i..=i, with.iter().copied().filter(|e| e.size > 0));
-    }
-
-    /// The file grows by the fewest whole pages that hold the bytes: a free large entry at the old end, whose place is answered.
-    fn grow(&mut self, bytes: u64) -> Result<usize, Refusal> {
-        let growth = self.up(bytes as u128);
-        if self.end as u128 + growth > self.limit as u128 {
-            return Err(BEYOND_LIMIT);
-        }
-        self.entries.push(Entry { address: self.end, size: growth as u64, kind: FREE_LARGE });
-        self.end += growth as u64;
-        Ok(self.entries.len() - 1)
-    }
-
-    /// The large rule: a live large piece is cut out of the best free large entry, or out of new pages. Its place is answered.
-    fn place_large(&mut self, size: u64) -> Result<usize, Refusal> {
-        let i = match self.best_large(size) {
-            Some(i) => i,
-            None => self.grow(size)?,
-        };
-        let e = self.entries[i];
-        let b = self.large_start(&e, size).expect("the entry fits");
-        let front = Entry { address: e.address, size: b - e.address, kind: FREE_LARGE };
-        let piece = Entry { address: b, size, kind: LIVE_LARGE };
-        let rest = Entry { address: b + size, size: (e.end() - (b + size) as u128) as u64, kind: FREE_LARGE };
-        self.replace(i, &[front, piece, rest]);
-        Ok(if front.size > 0 { i + 1 } else { i })
-    }
-
-    /// The small rule: at the start of the best free small entry, or of a page obtained by the large rule.
-    fn place_small(&mut self, live: u64, size: u64) -> Result<usize, Refusal> {
-        let i = match self.best_small(freed(live), size) {
-            Some(i) => i,
-            None => self.small_page(live, size)?,
-        };
-        let e = self.entries[i];
-        let piece = Entry { address: e.address, size, kind: live };
-        let rest = Entry { address: e.address + size, size: e.size - size, kind: freed(live) };
-        self.replace(i, &[piece, rest]);
-        Ok(i)
-    }
-
-    /// A page for small pieces, all of it free.
-    fn small_page(&mut self, live: u64, size: u64) -> Result<usize, Refusal> {
-        if self.slip == Slip::SmallInAMisalignedRest {
-            if let Some(i) = self.best_small(FREE_LARGE, size) {
-                return Ok(i);
-            }
-        }
-        let i = self.place_large(self.page)?;
-        self.entries[i].kind = freed(live);
-        Ok(i)
-    }
-
-    /// Whether two free neighbours are one entry in a sound table.
-    fn merge(&self, one: &Entry, next: &Entry) -> bool {
-        let in_one_page = page_start(self.page, one.address) == page_start(self.page, next.address);
-        let over_a_border = one.kind == FREE_LARGE || self.slip == Slip::MergedOverABorder;
-        one.is_free() && one.kind == next.kind && (over_a_border || in_one_page)
-    }
-
-    /// Entry i and its neighbours become one where they merge. The place of that one is answered.
-    fn merge_around(&mut self, i: usize) -> usize {
-        let mut i = i;
-        if i + 1 < self.entries.len() && self.merge(&self.entries[i], &self.entries[i + 1]) {
-            self.entries[i].size += self.entries[i + 1].size;
-            self.entries.remove(i + 1);
-        }
-        if i > 0 && self.merge(&self.entries[i - 1], &self.entries[i]) {
-            self.entries[i - 1].size += self.entries[i].size;
-            self.entries.remove(i);
-            i -= 1;
-        }
-        i
-    }
-
-    /// Whether entry i is a whole small page with nothing live left.
-    fn is_emptied_page(&self, i: usize) -> bool {
-        let e = self.entries[i];
-        e.is_small() && e.size == self.page && self.slip != Slip::EmptiedPageStaysSmall
-    }
-
-    /// The whole pages that a free large entry contains at the end are cut from the file; a part page stays.
-    fn cut_end(&mut self) {
-        let Some(last) = self.entries.last_mut() else {
-            return;
-        };
-        if last.kind != FREE_LARGE {
-            return;
-        }
-        let pages = last.size / self.page * self.page;
-        let cut = if self.slip == Slip::CutIntoAPartPage { last.size } else { pages };
-        last.size -= cut;
-        self.end -= cut;
-        if last.size == 0 {
-            self.entries.pop();
-        }
-    }
-
-    /// Entry i, which is live, is freed.
-    fn free(&mut self, i: usize) {
-        self.entries[i].kind = freed(self.entries[i].kind);
-        let i = self.merge_around(i);
-        if self.is_emptied_page(i) {
-            self.entries[i].kind = FREE_LARGE;
-            self.merge_around(i);
-        }
-        self.cut_end();
-    }
-
-    fn find(&self, address: u64, size: u64) -> Result<usize, Refusal> {
-        let named = |e: &Entry| e.is_live() && e.address == address && e.size == size;
-        self.entries.iter().position(named).ok_or(NOT_LIVE)
-    }
-
-    /// The entry behind entry i takes part in its growth by m: its place, if it has the stated room.
-    fn room_behind(&mut self, i: usize, by: u64) -> Result<usize, Refusal> {
-        let piece = self.entries[i];
-        let Some(next) = self.entries.get(i + 1).copied() else {
-            return if piece.is_small() { Err(NO_ROOM_BEHIND) } else { self.grow(by) };
-        };
-        let has_room = if piece.is_small() {
-            let in_one_page = page_start(self.page, piece.address) == page_start(self.page, next.address);
-            let stays_small = piece.size as u128 + (by as u128) < self.page as u128;
-            next.is_free() && in_one_page && next.size >= by && stays_small
-        } else {
-            next.kind == FREE_LARGE && next.size >= by
-        };
-        has_room.then_some(i + 1).ok_or(NO_ROOM_BEHIND)
-    }
-
-    fn extend(&mut self, i: usize, by: u64) -> Result<(), Refusal> {
-        let next = self.room_behind(i, by)?;
-        let room = self.entries[next];
-        self.entries[i].size += by;
-        self.replace(next, &[Entry { address: room.address + by, size: room.size - by, kind: room.kind }]);
-        Ok(())
-    }
-
-    fn shorten(&mut self, i: usize, by: u64) -> Result<(), Refusal> {
-        let piece = self.entries[i];
-        let least = if piece.is_small() { 1 } else { self.page };
-        if (piece.size as u128) < by as u128 + least as u128 {
-            return Err(TOO_LITTLE_LEFT);
-        }
-        let kept = Entry { size: piece.size - by, ..piece };
-        let cut = Entry { address: piece.address + kept.size, size: by, kind: piece.kind };
-        self.replace(i, &[kept, cut]);
-        self.free(i + 1);
-        Ok(())
-    }
+/// "No two neighbouring entries are both kind 6. No two neighbouring entries in one page are both kind 4 or both kind 5."
+fn must_be_one(former: &Entry, next: &Entry, in_one_page: bool) -> bool {
+    former.is_free() && former.kind == next.kind && (former.kind == FREE_LARGE || in_one_page)
 }
 
 /// A state over a lent table.
@@ -430,98 +219,286 @@ pub struct Model {
 }
 
 impl Model {
-    /// The entries of the table, as far as it has the words for them.
+    /// The entries of the state's count, none where the table has too few words.
     pub fn entries(&self) -> Vec<Entry> {
         entries_of(&self.table, self.state.count).unwrap_or_default()
     }
 
+    /// Opens the space over the words in `table`: "Success zeroes every word and gives E = 0, n = 0." A refused opening leaves the
+    /// words as they were and gives a state of four zeros.
     pub fn open(&mut self, page: u64, limit: u64) -> Result<(), Refusal> {
-        if !page_in_range(page) || !limit_in_range(page, limit) || !length_in_range(self.table.len()) {
+        if !is_in_range(page, limit, self.table.len()) {
             self.state = State::default();
-            return Err(OPENING_OUT_OF_RANGE);
+            return self.answered(Err(OPENING_OUT_OF_RANGE));
         }
+        self.state = State::of([page, limit, 0, 0]);
         self.table.fill(0);
-        self.state = State { page, limit, end: 0, count: 0 };
         Ok(())
     }
 
-    /// The entries to work on, or refusal 2.
-    fn begin(&self) -> Result<Work, Refusal> {
+    /// "A request names metadata (1) or raw (2) and a size s." Answers the piece's address. "Order: allocate 2, 3, 4, 5, 6."
+    pub fn allocate(&mut self, code: u64, size: u64) -> Result<u64, Refusal> {
+        self.call(|draft| match (code, size) {
+            (METADATA | RAW, 0) => Err(NO_BYTES),
+            (METADATA | RAW, _) if size >= draft.state.page => draft.place_large(size),
+            (METADATA | RAW, _) => draft.place_small(code, size),
+            _ => Err(UNKNOWN_CODE),
+        })
+    }
+
+    /// "The piece becomes free of its class". "Release 2, 7, 6."
+    pub fn release(&mut self, address: u64, size: u64) -> Result<(), Refusal> {
+        self.call(|draft| draft.live(address, size).map(|index| draft.free(index, size)))
+    }
+
+    /// "Extend by m": the piece takes m bytes of the room behind it. "Extend 2, 4, 7, 8, 5, 6."
+    pub fn extend(&mut self, address: u64, size: u64, by: u64) -> Result<(), Refusal> {
+        self.call(|draft| {
+            let index = draft.live_to_change(address, size, by)?;
+            let behind = draft.room_behind(index, by)?;
+            let kind = draft.entries[index].kind;
+            draft.divide(index, 2, &[(size + by, kind), (behind.size - by, behind.kind)]);
+            Ok(())
+        })
+    }
+
+    /// "At least 1 byte must remain of a small piece, at least P of a large one. The cut part is freed as in a release."
+    /// "Shorten 2, 4, 7, 9, 6."
+    pub fn shorten(&mut self, address: u64, size: u64, by: u64) -> Result<(), Refusal> {
+        self.call(|draft| {
+            let index = draft.live_to_change(address, size, by)?;
+            let least = if draft.entries[index].is_small() { 1 } else { draft.state.page };
+            if u128::from(least) + u128::from(by) > u128::from(size) {
+                return Err(TOO_LITTLE_LEFT);
+            }
+            draft.free(index, by);
+            Ok(())
+        })
+    }
+
+    /// "address and size of each free entry in address order", for a list slice of `room` words. "List 2, 3, 10."
+    pub fn list(&self, manager: u64, room: usize) -> Result<Vec<(u64, u64)>, Refusal> {
+        let draft = self.draft()?;
+        if ![METADATA, RAW, LARGE].contains(&manager) {
+            return Err(UNKNOWN_CODE);
+        }
+        let free = draft.entries.iter().filter(|entry| entry.kind == free_kind(manager));
+        let pairs: Vec<(u64, u64)> = free.map(|entry| (entry.address, entry.size)).collect();
+        if room < 2 * pairs.len() {
+            return Err(SLICE_TOO_SHORT);
+        }
+        Ok(pairs)
+    }
+
+    /// A call on a space: refusal 2 comes first, then those of `change`, then 6; only then is a word written.
+    fn call<T>(&mut self, change: impl FnOnce(&mut Draft) -> Result<T, Refusal>) -> Result<T, Refusal> {
+        let answer = self.draft().and_then(|mut draft| {
+            let answer = change(&mut draft)?;
+            self.write(&draft)?;
+            Ok(answer)
+        });
+        self.answered(answer)
+    }
+
+    /// The entries as they are, for a call to change; refused when "state and table are not sound together".
+    fn draft(&self) -> Result<Draft, Refusal> {
         if !is_sound(&self.state, &self.table) {
             return Err(NOT_SOUND);
         }
-        let State { page, limit, end, .. } = self.state;
-        Ok(Work { page, limit, end, entries: self.entries(), slip: self.slip })
+        let (state, entries, slip) = (self.state, self.entries(), self.slip);
+        Ok(Draft { state, entries, slip })
     }
 
-    /// The entries worked out become the table, or refusal 6.
-    fn finish(&mut self, work: Work) -> Result<(), Refusal> {
-        if work.entries.len() > self.table.len() / ENTRY_WORDS {
-            if self.slip == Slip::RefusalWritesAWord {
-                self.table[0] = 1;
-            }
+    /// Writes the draft, and 0 in every word after it; refused when "the resulting table needs more than C entries".
+    fn write(&mut self, draft: &Draft) -> Result<(), Refusal> {
+        if draft.entries.len() > self.table.len() / ENTRY_WORDS {
             return Err(TABLE_FULL);
         }
+        self.state = draft.state;
+        self.state.count = draft.entries.len() as u64;
         self.table.fill(0);
-        for (words, e) in self.table.chunks_mut(ENTRY_WORDS).zip(&work.entries) {
-            words.copy_from_slice(&[e.address, e.size, e.kind]);
+        for (words, entry) in self.table.chunks_exact_mut(ENTRY_WORDS).zip(&draft.entries) {
+            words.copy_from_slice(&[entry.address, entry.size, entry.kind]);
         }
-        self.state.end = work.end;
-        self.state.count = work.entries.len() as u64;
         Ok(())
     }
 
-    pub fn allocate(&mut self, code: u64, size: u64) -> Result<u64, Refusal> {
-        let mut work = self.begin()?;
-        if code != METADATA && code != RAW {
-            return Err(UNKNOWN_CODE);
+    /// Hands the answer on. A refused call "writes nothing", but for the slip, which `list` cannot make: it has no table to write.
+    fn answered<T>(&mut self, answer: Result<T, Refusal>) -> Result<T, Refusal> {
+        if self.slip == Slip::RefusalWritesAWord && answer.is_err() {
+            self.table.iter_mut().take(1).for_each(|word| *word = word.wrapping_add(1));
         }
-        if size == 0 {
-            return Err(NO_BYTES);
-        }
-        let i = if size >= work.page { work.place_large(size)? } else { work.place_small(code, size)? };
-        let at = work.entries[i].address;
-        self.finish(work)?;
-        Ok(at)
+        answer
+    }
+}
+
+/// The entries and the E that a call would leave. They start sound, so each end is within 2^62 and only a request can pass 2^64.
+struct Draft {
+    state: State,
+    entries: Vec<Entry>,
+    slip: Slip,
+}
+
+impl Draft {
+    /// "s >= P, large." The piece goes to the first border of the best entry; "what lies before and after it stays kind 6. If none
+    /// fits, the piece goes to E", and what remains of the grown pages is kind 6. Answers the piece's address.
+    fn place_large(&mut self, size: u64) -> Result<u64, Refusal> {
+        // "It fits when b + s <= a + z."
+        let fits = |entry: &Entry| u128::from(self.first_border(entry.address)) + u128::from(size) <= entry.end();
+        let (index, b) = match self.best(|entry| entry.kind == FREE_LARGE && fits(entry)) {
+            Some(index) => (index, self.first_border(self.entries[index].address)),
+            None => (self.entries.len(), self.grow(size)?.address),
+        };
+        let Entry { address: a, size: z, .. } = self.entries[index];
+        self.divide(index, 1, &[(b - a, FREE_LARGE), (size, LIVE_LARGE), (a + z - b - size, FREE_LARGE)]);
+        Ok(b)
     }
 
-    pub fn release(&mut self, address: u64, size: u64) -> Result<(), Refusal> {
-        let mut work = self.begin()?;
-        let i = work.find(address, size)?;
-        work.free(i);
-        self.finish(work)
-    }
-
-    /// A live piece gets another size. Extend and shorten start with the same refusals: 2, 4, 7.
-    fn resize(&mut self, address: u64, size: u64, by: u64, how: fn(&mut Work, usize, u64) -> Result<(), Refusal>) -> Result<(), Refusal> {
-        let mut work = self.begin()?;
-        if size == 0 || by == 0 {
-            return Err(NO_BYTES);
+    /// "s < P, small. Among free small entries of the request's type with at least s bytes take the smallest, then the lowest. The
+    /// piece goes to its start; the rest stays free." Answers the piece's address.
+    fn place_small(&mut self, code: u64, size: u64) -> Result<u64, Refusal> {
+        let fitting = self.best(|entry| entry.kind == free_kind(code) && entry.size >= size);
+        if let Some(index) = fitting.or_else(|| self.misaligned_rest(size)) {
+            let Entry { address, size: room, kind } = self.entries[index];
+            self.divide(index, 1, &[(size, code), (room - size, kind)]);
+            return Ok(address);
         }
-        let i = work.find(address, size)?;
-        how(&mut work, i, by)?;
-        self.finish(work)
+        // "If none fits, one page is obtained by the large rule for a request of P."
+        let address = self.place_large(self.state.page)?;
+        let index = self.live(address, self.state.page)?;
+        self.divide(index, 1, &[(size, code), (self.state.page - size, free_kind(code))]);
+        Ok(address)
     }
 
-    pub fn extend(&mut self, address: u64, size: u64, by: u64) -> Result<(), Refusal> {
-        self.resize(address, size, by, Work::extend)
+    /// With the slip, a free large entry that starts at no border and has room for a small request.
+    fn misaligned_rest(&self, size: u64) -> Option<usize> {
+        let is_rest = |entry: &Entry| entry.kind == FREE_LARGE && self.border(entry.address) != entry.address;
+        self.best(|entry| self.slip == Slip::SmallInAMisalignedRest && is_rest(entry) && entry.size >= size)
     }
 
-    pub fn shorten(&mut self, address: u64, size: u64, by: u64) -> Result<(), Refusal> {
-        self.resize(address, size, by, Work::shorten)
-    }
-
-    /// Address and size of each free section of a manager, where a lent slice of `room` words holds them.
-    pub fn list(&self, manager: u64, room: usize) -> Result<Vec<(u64, u64)>, Refusal> {
-        let work = self.begin()?;
-        if !(1..=3).contains(&manager) {
-            return Err(UNKNOWN_CODE);
+    /// "Among fitting entries take the smallest z, then the lowest a."
+    fn best(&self, fits: impl Fn(&Entry) -> bool) -> Option<usize> {
+        let mut fitting = (0..self.entries.len()).filter(|index| fits(&self.entries[*index]));
+        match self.slip {
+            Slip::FirstFit => fitting.next(),
+            _ => fitting.min_by_key(|index| (self.entries[*index].size, self.entries[*index].address)),
         }
-        let of_manager = |e: &&Entry| e.kind == freed(manager);
-        let sections: Vec<_> = work.entries.iter().filter(of_manager).map(|e| (e.address, e.size)).collect();
-        if room < 2 * sections.len() {
-            return Err(SLICE_TOO_SHORT);
+    }
+
+    /// "E grows by the fewest whole pages that hold s"; "That growth must leave E <= M." The grown pages are one free large entry,
+    /// the last, which is the answer.
+    fn grow(&mut self, size: u64) -> Result<Entry, Refusal> {
+        let page = u128::from(self.state.page);
+        let growth = u128::from(size).div_ceil(page) * page;
+        if u128::from(self.state.end) + growth > u128::from(self.state.limit) {
+            return Err(BEYOND_LIMIT);
         }
-        Ok(sections)
+        let grown = Entry::of([self.state.end, growth as u64, FREE_LARGE]);
+        self.entries.push(grown);
+        self.state.end += grown.size;
+        Ok(grown)
+    }
+
+    /// The index of the piece that a call names; refused when "no live entry has this address and size".
+    fn live(&self, address: u64, size: u64) -> Result<usize, Refusal> {
+        let is_named = |entry: &Entry| entry.is_live() && entry.address == address && entry.size == size;
+        self.entries.iter().position(is_named).ok_or(NOT_LIVE)
+    }
+
+    /// The index of the piece that an extend or a shorten names: refusal 4, then 7.
+    fn live_to_change(&self, address: u64, size: u64, by: u64) -> Result<usize, Refusal> {
+        match (size, by) {
+            (0, _) | (_, 0) => Err(NO_BYTES),
+            _ => self.live(address, size),
+        }
+    }
+
+    /// "A small piece needs a free entry directly behind it in the page with at least m bytes, and its new size must stay below P. A
+    /// large piece with an entry behind it needs that entry to be kind 6 with at least m bytes. A large piece ending at E grows the
+    /// file by the fewest pages that hold m". Answers the entry behind the piece.
+    fn room_behind(&mut self, index: usize, by: u64) -> Result<Entry, Refusal> {
+        let piece = self.entries[index];
+        let stays_small = piece.is_small() && u128::from(piece.size) + u128::from(by) < u128::from(self.state.page);
+        match self.entries.get(index + 1) {
+            None if !piece.is_small() => self.grow(by),
+            Some(behind) if !piece.is_small() && behind.kind == FREE_LARGE && behind.size >= by => Ok(*behind),
+            Some(behind) if stays_small && behind.is_free() && self.share_a_page(&piece, behind) && behind.size >= by => Ok(*behind),
+            _ => Err(NO_ROOM_BEHIND),
+        }
+    }
+
+    /// Puts parts of these sizes and kinds, one behind the other, in the place of `count` entries; a part of 0 bytes is no entry.
+    fn divide(&mut self, index: usize, count: usize, parts: &[(u64, u64)]) {
+        let mut address = self.entries[index].address;
+        let mut entries = Vec::new();
+        for &(size, kind) in parts.iter().filter(|(size, _)| *size > 0) {
+            entries.push(Entry { address, size, kind });
+            address += size;
+        }
+        self.entries.splice(index..index + count, entries);
+    }
+
+    /// Frees the last `bytes` of a piece: merge, hand an emptied page over, merge again, cut the end.
+    fn free(&mut self, index: usize, bytes: u64) {
+        let piece = self.entries[index];
+        self.divide(index, 1, &[(piece.size - bytes, piece.kind), (bytes, free_kind(piece.class()))]);
+        self.merge();
+        self.hand_over();
+        self.merge();
+        self.cut_the_end();
+    }
+
+    /// "merges with free neighbours as the sound table demands".
+    fn merge(&mut self) {
+        let mut merged: Vec<Entry> = Vec::new();
+        for entry in &self.entries {
+            let in_one_page = |former: &Entry| self.slip == Slip::MergedOverABorder || self.share_a_page(former, entry);
+            match merged.last_mut() {
+                Some(former) if must_be_one(former, entry, in_one_page(former)) => former.size += entry.size,
+                _ => merged.push(*entry),
+            }
+        }
+        self.entries = merged;
+    }
+
+    /// "A small page with nothing live left becomes kind 6."
+    fn hand_over(&mut self) {
+        let page = self.state.page;
+        for index in 0..self.entries.len() {
+            let border = self.border(self.entries[index].address);
+            let holds_live = self.entries.iter().any(|other| other.is_live() && other.touches(border, page));
+            if self.entries[index].is_small() && !holds_live && self.slip != Slip::EmptiedPageStaysSmall {
+                self.entries[index].kind = FREE_LARGE;
+            }
+        }
+    }
+
+    /// "If kind 6 then ends at E, as many whole pages as it contains at the end are cut from the file; a part page stays."
+    fn cut_the_end(&mut self) {
+        if let Some(last) = self.entries.last_mut().filter(|last| last.kind == FREE_LARGE) {
+            let (size, whole_pages) = (last.size, last.size / self.state.page * self.state.page);
+            let cut = if self.slip == Slip::CutIntoAPartPage { size } else { whole_pages };
+            last.size -= cut;
+            self.state.end -= cut;
+            self.entries.retain(|entry| entry.size > 0);
+        }
+    }
+
+    /// Whether two entries start in one page.
+    fn share_a_page(&self, former: &Entry, next: &Entry) -> bool {
+        self.border(former.address) == self.border(next.address)
+    }
+
+    /// The page border at or below an address.
+    fn border(&self, address: u64) -> u64 {
+        match self.slip {
+            Slip::BorderByMask => address & !(self.state.page - 1),
+            _ => address / self.state.page * self.state.page,
+        }
+    }
+
+    /// "the first multiple of P not below a".
+    fn first_border(&self, address: u64) -> u64 {
+        self.border(address + self.state.page - 1)
     }
 }
