@@ -114,19 +114,34 @@ fn three_sections() -> Scene {
     scene::after(s, Call::Allocate(RAW, 500))
 }
 
+// A free large entry that starts within a page, behind a piece of `size` bytes, and holds two whole pages, the first at `border`. There a
+// piece of `border` bytes was released, and behind it a page is live.
+fn misaligned(page: u64, limit: u64, size: u64, border: u64) -> Scene {
+    let s = scene::after(scenes::opened(page, limit, 36), Call::Allocate(RAW, size));
+    let s = scene::after(s, Call::Allocate(RAW, border));
+    let s = scene::after(s, Call::Allocate(RAW, page));
+    scene::after(s, Call::Release(border, border))
+}
+
 fn best_place(t: Tally) -> Tally {
     let c: &[u8] = b"a smaller section that lies higher is taken, the lowest of equals\n\
                      an exact fit is taken\n\
                      a byte more goes to the larger section\n\
                      metadata takes no section of raw data\n\
-                     a small request gets no misaligned rest of a large piece";
+                     a small request gets no misaligned rest of a large piece\n\
+                     of a misaligned free large entry a small request gets the first whole page\n\
+                     P = 1000: of a misaligned free large entry a small request gets the first whole page";
     let s = three_sections();
     let t = placed(t, c, 0, s, Call::Allocate(RAW, 10), 1012, 1536);
     let t = placed(t, c, 1, s, Call::Allocate(RAW, 12), 1012, 1536);
     let t = placed(t, c, 2, s, Call::Allocate(RAW, 13), 400, 1536);
     let t = placed(t, c, 3, s, Call::Allocate(METADATA, 10), 1536, 2048);
     let s = scene::after(scenes::empty(), Call::Allocate(RAW, 700));
-    placed(t, c, 4, s, Call::Allocate(RAW, 10), 1024, 1536)
+    let t = placed(t, c, 4, s, Call::Allocate(RAW, 10), 1024, 1536);
+    let s = misaligned(512, 5120, 700, 1024);
+    let t = placed(t, c, 5, s, Call::Allocate(METADATA, 10), 1024, 2560);
+    let s = misaligned(1000, 5000, 1500, 2000);
+    placed(t, c, 6, s, Call::Allocate(METADATA, 10), 2000, 5000)
 }
 
 // The same five requests, with P = 512 and with P = 1,000.
