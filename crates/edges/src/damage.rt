@@ -12,8 +12,8 @@ use show::scene::Call;
 use show::scene::Scene;
 use show::text::say;
 use show::text::say_line;
+use show::text::say_nth;
 use show::text::say_number;
-use show::words;
 
 const TABLE_WORDS: usize = 36;
 
@@ -30,17 +30,6 @@ struct Counts {
     wrong: u64,
 }
 
-fn same_scene(a: Scene, other: Scene) -> bool {
-    let old = a.words;
-    let new = other.words;
-    if !words::same_words(&old, &new) {
-        return false;
-    }
-    let given = a.space;
-    let returned = other.space;
-    scene::same_state(given, returned)
-}
-
 // Whether a call is refused with this number, and leaves every word and the state.
 fn is_refused(before: Scene, call: Call, number: u64) -> bool {
     let asked = scene::ask(before, call);
@@ -49,7 +38,7 @@ fn is_refused(before: Scene, call: Call, number: u64) -> bool {
         return false;
     }
     let left = asked.scene;
-    same_scene(before, left)
+    scene::same_scene(before, left)
 }
 
 // Whether every call is refused, each with its number. The arguments are such that a sound table refuses them too, each later in its order.
@@ -88,17 +77,33 @@ fn known_sound(i: usize, value: u64) -> bool {
     }
 }
 
-// The values that a word is replaced by: all kinds with 0 and 7, its neighbours, a page more, and two very large ones.
+// A value that is none of the first eight; in place of those, the word's own, which is no damage.
+fn beyond_seven(old: u64, value: u64) -> u64 {
+    if value < 8 {
+        return old;
+    }
+    value
+}
+
+// The largest number; in place of it the word's own, where its lower neighbour is the largest.
+fn largest(old: u64) -> u64 {
+    if old == 0 {
+        return old;
+    }
+    LARGEST
+}
+
+// The values that a word is replaced by, each once: all kinds with 0 and 7, its neighbours, a page more, and two very large ones.
 fn other_value(old: u64, k: usize) -> u64 {
     if k < 8 {
         return k as u64;
     }
     match k {
-        8 => std::num::wrapping_add_u64(old, 1),
-        9 => std::num::wrapping_sub_u64(old, 1),
+        8 => beyond_seven(old, std::num::wrapping_add_u64(old, 1)),
+        9 => beyond_seven(old, std::num::wrapping_sub_u64(old, 1)),
         10 => std::num::wrapping_add_u64(old, 512),
         11 => 9223372036854775808,
-        _ => LARGEST,
+        _ => largest(old),
     }
 }
 
@@ -187,11 +192,10 @@ fn say_place(i: usize) {
         say(b", behind the entries: ");
         return;
     }
-    match i % 3 {
-        0 => say(b", the address of entry "),
-        1 => say(b", the size of entry "),
-        _ => say(b", the kind of entry "),
-    }
+    say_nth(
+        b", the address of entry \n, the size of entry \n, the kind of entry ",
+        (i % 3) as u64,
+    );
     say_number((i / 3) as u64);
     say(b": ");
 }
@@ -220,83 +224,86 @@ fn words_in_turn(t: Tally, s: Scene) -> Tally {
     tally
 }
 
-// That every call refuses 2.
-fn breaks(t: Tally, claim: &[u8], s: Scene) -> Tally {
-    if is_broken(s) {
-        claim::say_ok(claim);
-        return t.held();
+fn judge(t: Tally, text: &[u8], k: u64, held: bool) -> Tally {
+    claim::say_claim(held, text, k);
+    if !held {
+        say_line(b"each call to refuse what the claim says, found one that does not");
     }
-    claim::say_fail(claim);
-    say_line(b"every call to refuse 2, found a call that does not");
-    t.failed()
+    t.count(held)
 }
 
-// That no call refuses 2.
-fn stays_sound(t: Tally, claim: &[u8], s: Scene) -> Tally {
-    if is_sound(s) {
-        claim::say_ok(claim);
-        return t.held();
-    }
-    claim::say_fail(claim);
-    say_line(b"each call to refuse what comes after 2, found one that does not");
-    t.failed()
+// That with this state every call refuses 2.
+fn breaks(t: Tally, text: &[u8], k: u64, page: u64, limit: u64, end: u64, count: u64) -> Tally {
+    judge(
+        t,
+        text,
+        k,
+        is_broken(scenes::with_state(page, limit, end, count)),
+    )
+}
+
+// That with this state no call refuses 2, but what comes after it.
+fn stays_sound(
+    t: Tally,
+    text: &[u8],
+    k: u64,
+    page: u64,
+    limit: u64,
+    end: u64,
+    count: u64,
+) -> Tally {
+    judge(
+        t,
+        text,
+        k,
+        is_sound(scenes::with_state(page, limit, end, count)),
+    )
 }
 
 fn pages_and_limits(t: Tally) -> Tally {
-    let t = stays_sound(t, b"the state after step 5 is sound", scenes::five());
-    let s = scenes::with_state(511, 5120, 2560, 8);
-    let t = breaks(t, b"P = 511 is refused 2 by every call", s);
-    let s = scenes::with_state(513, 5120, 2560, 8);
-    let t = breaks(t, b"P = 513 is refused 2 by every call", s);
-    let s = scenes::with_state(640, 5120, 2560, 8);
-    let t = breaks(
-        t,
-        b"P = 640, which divides E, is refused 2 by every call",
-        s,
-    );
-    let s = scenes::with_state(0, 5120, 2560, 8);
-    let t = breaks(t, b"P = 0 is refused 2 by every call", s);
-    let s = scenes::with_state(512, 2559, 2560, 8);
-    let t = breaks(t, b"M = 2559, below E, is refused 2 by every call", s);
-    let s = scenes::with_state(512, 2560, 2560, 8);
-    let t = stays_sound(t, b"M = 2560, which is E, is sound", s);
-    let s = scenes::with_state(512, 5121, 2560, 8);
-    let t = stays_sound(t, b"M = 5121 is sound", s);
-    let s = scenes::with_state(512, 4611686018427387904, 2560, 8);
-    let t = stays_sound(t, b"M = 2^62 is sound", s);
-    let s = scenes::with_state(512, 4611686018427387905, 2560, 8);
-    breaks(t, b"M = 2^62 + 1 is refused 2 by every call", s)
+    let c: &[u8] = b"the state after step 5 is sound\n\
+                     P = 511 is refused 2 by every call\n\
+                     P = 513 is refused 2 by every call\n\
+                     P = 640, which divides E, is refused 2 by every call\n\
+                     P = 0 is refused 2 by every call\n\
+                     M = 2559, below E, is refused 2 by every call\n\
+                     M = 2560, which is E, is sound\n\
+                     M = 5121 is sound\n\
+                     M = 2^62 is sound\n\
+                     M = 2^62 + 1 is refused 2 by every call";
+    let t = stays_sound(t, c, 0, 512, 5120, 2560, 8);
+    let t = breaks(t, c, 1, 511, 5120, 2560, 8);
+    let t = breaks(t, c, 2, 513, 5120, 2560, 8);
+    let t = breaks(t, c, 3, 640, 5120, 2560, 8);
+    let t = breaks(t, c, 4, 0, 5120, 2560, 8);
+    let t = breaks(t, c, 5, 512, 2559, 2560, 8);
+    let t = stays_sound(t, c, 6, 512, 2560, 2560, 8);
+    let t = stays_sound(t, c, 7, 512, 5121, 2560, 8);
+    let t = stays_sound(t, c, 8, 512, 4611686018427387904, 2560, 8);
+    breaks(t, c, 9, 512, 4611686018427387905, 2560, 8)
 }
 
 fn ends_and_counts(t: Tally) -> Tally {
-    let s = scenes::with_state(512, 5120, 2559, 8);
-    let t = breaks(t, b"E = 2559 is refused 2 by every call", s);
-    let s = scenes::with_state(512, 5120, 2048, 8);
-    let t = breaks(t, b"E a page less is refused 2 by every call", s);
-    let s = scenes::with_state(512, 5120, 3072, 8);
-    let t = breaks(t, b"E a page more is refused 2 by every call", s);
-    let s = scenes::with_state(512, 5120, 0, 8);
-    let t = breaks(t, b"E = 0 is refused 2 by every call", s);
-    let s = scenes::with_state(512, 5120, 2560, 7);
-    let t = breaks(t, b"n = 7 is refused 2 by every call", s);
-    let s = scenes::with_state(512, 5120, 2560, 9);
-    let t = breaks(t, b"n = 9 is refused 2 by every call", s);
-    let s = scenes::with_state(512, 5120, 2560, 13);
-    let t = breaks(t, b"n = C + 1 is refused 2 by every call", s);
-    let s = scenes::with_state(512, 5120, 2560, LARGEST);
-    let t = breaks(t, b"n = 2^64 - 1 is refused 2 by every call", s);
-    let s = scenes::with_state(512, 5120, 0, 0);
-    let t = breaks(
-        t,
-        b"E = 0 and n = 0 over these words is refused 2 by every call",
-        s,
-    );
-    let s = scenes::opened(511, 5120, 36);
-    breaks(
-        t,
-        b"the state of a refused opening is refused 2 by every call",
-        s,
-    )
+    let c: &[u8] = b"E = 2559 is refused 2 by every call\n\
+                     E a page less is refused 2 by every call\n\
+                     E a page more is refused 2 by every call\n\
+                     E = 0 is refused 2 by every call\n\
+                     n = 7 is refused 2 by every call\n\
+                     n = 9 is refused 2 by every call\n\
+                     n = C + 1 is refused 2 by every call\n\
+                     n = 2^64 - 1 is refused 2 by every call\n\
+                     E = 0 and n = 0 over these words is refused 2 by every call\n\
+                     the state of a refused opening is refused 2 by every call";
+    let t = breaks(t, c, 0, 512, 5120, 2559, 8);
+    let t = breaks(t, c, 1, 512, 5120, 2048, 8);
+    let t = breaks(t, c, 2, 512, 5120, 3072, 8);
+    let t = breaks(t, c, 3, 512, 5120, 0, 8);
+    let t = breaks(t, c, 4, 512, 5120, 2560, 7);
+    let t = breaks(t, c, 5, 512, 5120, 2560, 9);
+    let t = breaks(t, c, 6, 512, 5120, 2560, 13);
+    let t = breaks(t, c, 7, 512, 5120, 2560, LARGEST);
+    let t = breaks(t, c, 8, 512, 5120, 0, 0);
+    judge(t, c, 9, is_broken(scenes::opened(511, 5120, 36)))
 }
 
 pub fn all(t: Tally) -> Tally {

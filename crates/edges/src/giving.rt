@@ -1,160 +1,243 @@
 // Giving back, lengthening, shortening: refusals 4, 5, 7, 8, 9 from both sides (2 is with the damaged tables, 6 with the full ones).
 use crate::cases::done;
+use crate::cases::leaves;
+use crate::cases::one;
+use crate::cases::two;
 use crate::scenes;
 use show::case::refuses;
 use show::claim::Tally;
+use show::document;
 use show::scene;
 use show::scene::Call;
-use show::scene::Scene;
 use space::place::METADATA;
 use space::place::RAW;
 
 const LARGEST: u64 = 18446744073709551615;
 
+// Document 01's table after step 6: in place of the large piece, its two pages are free.
+fn after_step_six() -> [u64; 96] {
+    let w = document::after_step_twelve();
+    let w = scene::with_entry(w, 4, 1024, 1024, 6);
+    let w = scene::with_entry(w, 5, 2048, 10, 1);
+    scene::with_entry(w, 6, 2058, 502, 4)
+}
+
 fn releases(t: Tally) -> Tally {
+    let c: &[u8] = b"release (1024, 700), a live piece, is done\n\
+                     release of a byte less is refused 7\n\
+                     release of a byte more is refused 7\n\
+                     release from a byte before is refused 7\n\
+                     release from a byte behind is refused 7\n\
+                     release of a free entry is refused 7\n\
+                     release of size 0 is refused 7\n\
+                     release of 2^64 - 1 bytes is refused 7\n\
+                     release at 2^64 - 1 is refused 7\n\
+                     release of a zero entry behind the table is refused 7\n\
+                     a second release of the same piece is refused 7";
     let s = scenes::five();
-    let c = b"release (1024, 700), a live piece, is done";
-    let t = done(t, c, s, Call::Release(1024, 700), 2560);
-    let c = b"release of a byte less is refused 7";
-    let t = refuses(t, c, s, Call::Release(1024, 699), 7);
-    let c = b"release of a byte more is refused 7";
-    let t = refuses(t, c, s, Call::Release(1024, 701), 7);
-    let c = b"release from a byte before is refused 7";
-    let t = refuses(t, c, s, Call::Release(1023, 700), 7);
-    let c = b"release from a byte behind is refused 7";
-    let t = refuses(t, c, s, Call::Release(1025, 700), 7);
-    let c = b"release of a free entry is refused 7";
-    let t = refuses(t, c, s, Call::Release(612, 412), 7);
-    let c = b"release of size 0 is refused 7";
-    let t = refuses(t, c, s, Call::Release(1024, 0), 7);
-    let c = b"release of 2^64 - 1 bytes is refused 7";
-    let t = refuses(t, c, s, Call::Release(0, LARGEST), 7);
-    let c = b"release at 2^64 - 1 is refused 7";
-    let t = refuses(t, c, s, Call::Release(LARGEST, LARGEST), 7);
-    let c = b"release of a zero entry behind the table is refused 7";
-    let t = refuses(t, c, s, Call::Release(0, 0), 7);
+    let t = leaves(
+        t,
+        c,
+        0,
+        s,
+        Call::Release(1024, 700),
+        2560,
+        7,
+        after_step_six(),
+    );
+    let t = refuses(t, c, 1, s, Call::Release(1024, 699), 7);
+    let t = refuses(t, c, 2, s, Call::Release(1024, 701), 7);
+    let t = refuses(t, c, 3, s, Call::Release(1023, 700), 7);
+    let t = refuses(t, c, 4, s, Call::Release(1025, 700), 7);
+    let t = refuses(t, c, 5, s, Call::Release(612, 412), 7);
+    let t = refuses(t, c, 6, s, Call::Release(1024, 0), 7);
+    let t = refuses(t, c, 7, s, Call::Release(0, LARGEST), 7);
+    let t = refuses(t, c, 8, s, Call::Release(LARGEST, LARGEST), 7);
+    let t = refuses(t, c, 9, s, Call::Release(0, 0), 7);
     let s = scene::after(s, Call::Release(1024, 700));
-    let c = b"a second release of the same piece is refused 7";
-    refuses(t, c, s, Call::Release(1024, 700), 7)
+    refuses(t, c, 10, s, Call::Release(1024, 700), 7)
 }
 
 fn part_pages(t: Tally) -> Tally {
+    let c: &[u8] = b"whole pages are cut from the end, and a part page stays\n\
+                     the last piece's release empties the file";
     let s = scene::after(scenes::empty(), Call::Allocate(RAW, 700));
     let s = scene::after(s, Call::Allocate(RAW, 512));
-    let c = b"whole pages are cut from the end, and a part page stays";
-    let t = done(t, c, s, Call::Release(1024, 512), 1024);
+    let t = leaves(
+        t,
+        c,
+        0,
+        s,
+        Call::Release(1024, 512),
+        1024,
+        2,
+        two(700, 3, 324, 6),
+    );
     let s = scenes::one();
-    let c = b"the last piece's release empties the file";
-    done(t, c, s, Call::Release(0, 96), 0)
+    leaves(t, c, 1, s, Call::Release(0, 96), 0, 0, scene::blank())
 }
 
 fn extends_small(t: Tally) -> Tally {
+    let c: &[u8] = b"after step 1 extending (0, 96) by 415 is done\n\
+                     after step 1 extending (0, 96) by 416 is refused 8\n\
+                     extending a small piece by 2^64 - 1 is refused 8\n\
+                     a small piece takes all the room behind it, 316 bytes\n\
+                     a byte more than that room is refused 8\n\
+                     with a live piece behind it one byte is refused 8\n\
+                     at a page's border one byte is refused 8\n\
+                     a small piece may reach P - 1\n\
+                     a small piece may not reach P";
     let s = scenes::one();
-    let c = b"after step 1 extending (0, 96) by 415 is done";
-    let t = done(t, c, s, Call::Extend(0, 96, 415), 512);
-    let c = b"after step 1 extending (0, 96) by 416 is refused 8";
-    let t = refuses(t, c, s, Call::Extend(0, 96, 416), 8);
-    let c = b"extending a small piece by 2^64 - 1 is refused 8";
-    let t = refuses(t, c, s, Call::Extend(0, 96, LARGEST), 8);
-    let two = scene::after(s, Call::Allocate(METADATA, 100));
-    let c = b"a small piece takes all the room behind it, 316 bytes";
-    let t = done(t, c, two, Call::Extend(96, 100, 316), 512);
-    let c = b"a byte more than that room is refused 8";
-    let t = refuses(t, c, two, Call::Extend(96, 100, 317), 8);
-    let c = b"with a live piece behind it one byte is refused 8";
-    let t = refuses(t, c, two, Call::Extend(0, 96, 1), 8);
+    let t = leaves(
+        t,
+        c,
+        0,
+        s,
+        Call::Extend(0, 96, 415),
+        512,
+        2,
+        two(511, 1, 1, 4),
+    );
+    let t = refuses(t, c, 1, s, Call::Extend(0, 96, 416), 8);
+    let t = refuses(t, c, 2, s, Call::Extend(0, 96, LARGEST), 8);
+    let next = scene::after(s, Call::Allocate(METADATA, 100));
+    let t = leaves(
+        t,
+        c,
+        3,
+        next,
+        Call::Extend(96, 100, 316),
+        512,
+        2,
+        two(96, 1, 416, 1),
+    );
+    let t = refuses(t, c, 4, next, Call::Extend(96, 100, 317), 8);
+    let t = refuses(t, c, 5, next, Call::Extend(0, 96, 1), 8);
     let s = scenes::five();
-    let c = b"at a page's border one byte is refused 8";
-    let t = refuses(t, c, s, Call::Extend(96, 416, 1), 8);
-    let c = b"a small piece may reach P - 1";
-    let t = done(t, c, s, Call::Extend(2048, 10, 501), 2560);
-    let c = b"a small piece may not reach P";
-    refuses(t, c, s, Call::Extend(2048, 10, 502), 8)
+    let t = refuses(t, c, 6, s, Call::Extend(96, 416, 1), 8);
+    let t = done(t, c, 7, s, Call::Extend(2048, 10, 501), 2560);
+    refuses(t, c, 8, s, Call::Extend(2048, 10, 502), 8)
 }
 
 fn extends_named(t: Tally) -> Tally {
+    let c: &[u8] = b"extending by 0 is refused 4\n\
+                     extending by 1 is done\n\
+                     extending a piece of size 0 is refused 4\n\
+                     extending no piece by 0 is 4 before 7\n\
+                     extending a piece named a byte shorter is refused 7\n\
+                     extending a free entry is refused 7\n\
+                     extending a piece of 2^64 - 1 bytes is refused 7\n\
+                     extending a piece at 2^64 - 1 is refused 7";
     let s = scenes::five();
-    let c = b"extending by 0 is refused 4";
-    let t = refuses(t, c, s, Call::Extend(1024, 700, 0), 4);
-    let c = b"extending by 1 is done";
-    let t = done(t, c, s, Call::Extend(1024, 700, 1), 2560);
-    let c = b"extending a piece of size 0 is refused 4";
-    let t = refuses(t, c, s, Call::Extend(1024, 0, 1), 4);
-    let c = b"extending no piece by 0 is 4 before 7";
-    let t = refuses(t, c, s, Call::Extend(1, 1, 0), 4);
-    let c = b"extending a piece named a byte shorter is refused 7";
-    let t = refuses(t, c, s, Call::Extend(1024, 699, 1), 7);
-    let c = b"extending a free entry is refused 7";
-    let t = refuses(t, c, s, Call::Extend(1724, 324, 1), 7);
-    let c = b"extending a piece of 2^64 - 1 bytes is refused 7";
-    let t = refuses(t, c, s, Call::Extend(0, LARGEST, LARGEST), 7);
-    let c = b"extending a piece at 2^64 - 1 is refused 7";
-    refuses(t, c, s, Call::Extend(LARGEST, 1, 1), 7)
+    let t = refuses(t, c, 0, s, Call::Extend(1024, 700, 0), 4);
+    let t = done(t, c, 1, s, Call::Extend(1024, 700, 1), 2560);
+    let t = refuses(t, c, 2, s, Call::Extend(1024, 0, 1), 4);
+    let t = refuses(t, c, 3, s, Call::Extend(1, 1, 0), 4);
+    let t = refuses(t, c, 4, s, Call::Extend(1024, 699, 1), 7);
+    let t = refuses(t, c, 5, s, Call::Extend(1724, 324, 1), 7);
+    let t = refuses(t, c, 6, s, Call::Extend(0, LARGEST, LARGEST), 7);
+    refuses(t, c, 7, s, Call::Extend(LARGEST, 1, 1), 7)
 }
 
 fn extends_large(t: Tally) -> Tally {
+    let c: &[u8] = b"a large piece takes all of the free large entry behind it, 324 bytes\n\
+                     a byte more than that entry is refused 8\n\
+                     a large piece at E grows the file up to M\n\
+                     a large piece at E grows by the fewest pages\n\
+                     a large piece at E may not pass M: a byte more is refused 5\n\
+                     a large piece at E extended by 2^64 - 1 is refused 5\n\
+                     with a part page behind it a large piece takes that page\n\
+                     with a part page behind it a byte more is refused 8\n\
+                     with a part page behind it 2^64 - 1 is refused 8";
     let s = scenes::five();
-    let c = b"a large piece takes all of the free large entry behind it, 324 bytes";
-    let t = done(t, c, s, Call::Extend(1024, 700, 324), 2560);
-    let c = b"a byte more than that entry is refused 8";
-    let t = refuses(t, c, s, Call::Extend(1024, 700, 325), 8);
+    let t = done(t, c, 0, s, Call::Extend(1024, 700, 324), 2560);
+    let t = refuses(t, c, 1, s, Call::Extend(1024, 700, 325), 8);
     let s = scene::after(scenes::empty(), Call::Allocate(RAW, 512));
-    let c = b"a large piece at E grows the file up to M";
-    let t = done(t, c, s, Call::Extend(0, 512, 4608), 5120);
-    let c = b"a large piece at E grows by the fewest pages";
-    let t = done(t, c, s, Call::Extend(0, 512, 513), 1536);
-    let c = b"a large piece at E may not pass M: a byte more is refused 5";
-    let t = refuses(t, c, s, Call::Extend(0, 512, 4609), 5);
-    let c = b"a large piece at E extended by 2^64 - 1 is refused 5";
-    let t = refuses(t, c, s, Call::Extend(0, 512, LARGEST), 5);
+    let t = leaves(
+        t,
+        c,
+        2,
+        s,
+        Call::Extend(0, 512, 4608),
+        5120,
+        1,
+        one(5120, 3),
+    );
+    let t = leaves(
+        t,
+        c,
+        3,
+        s,
+        Call::Extend(0, 512, 513),
+        1536,
+        2,
+        two(1025, 3, 511, 6),
+    );
+    let t = refuses(t, c, 4, s, Call::Extend(0, 512, 4609), 5);
+    let t = refuses(t, c, 5, s, Call::Extend(0, 512, LARGEST), 5);
     let s = scene::after(scenes::empty(), Call::Allocate(RAW, 700));
-    let c = b"with a part page behind it a large piece takes that page";
-    let t = done(t, c, s, Call::Extend(0, 700, 324), 1024);
-    let c = b"with a part page behind it a byte more is refused 8";
-    let t = refuses(t, c, s, Call::Extend(0, 700, 325), 8);
-    let c = b"with a part page behind it 2^64 - 1 is refused 8";
-    refuses(t, c, s, Call::Extend(0, 700, LARGEST), 8)
+    let t = leaves(t, c, 6, s, Call::Extend(0, 700, 324), 1024, 1, one(1024, 3));
+    let t = refuses(t, c, 7, s, Call::Extend(0, 700, 325), 8);
+    refuses(t, c, 8, s, Call::Extend(0, 700, LARGEST), 8)
 }
 
 fn shortens_named(t: Tally) -> Tally {
+    let c: &[u8] = b"shortening by 0 is refused 4\n\
+                     shortening by 1 is done\n\
+                     shortening a piece of size 0 is refused 4\n\
+                     shortening no piece by 0 is 4 before 7\n\
+                     shortening a piece named a byte longer is refused 7\n\
+                     shortening a free entry is refused 7\n\
+                     shortening a piece of 2^64 - 1 bytes is refused 7";
     let s = scenes::five();
-    let c = b"shortening by 0 is refused 4";
-    let t = refuses(t, c, s, Call::Shorten(1024, 700, 0), 4);
-    let c = b"shortening by 1 is done";
-    let t = done(t, c, s, Call::Shorten(1024, 700, 1), 2560);
-    let c = b"shortening a piece of size 0 is refused 4";
-    let t = refuses(t, c, s, Call::Shorten(1024, 0, 1), 4);
-    let c = b"shortening no piece by 0 is 4 before 7";
-    let t = refuses(t, c, s, Call::Shorten(1, 1, 0), 4);
-    let c = b"shortening a piece named a byte longer is refused 7";
-    let t = refuses(t, c, s, Call::Shorten(1024, 701, 1), 7);
-    let c = b"shortening a free entry is refused 7";
-    let t = refuses(t, c, s, Call::Shorten(612, 412, 1), 7);
-    let c = b"shortening a piece of 2^64 - 1 bytes is refused 7";
-    refuses(t, c, s, Call::Shorten(0, LARGEST, LARGEST), 7)
+    let t = refuses(t, c, 0, s, Call::Shorten(1024, 700, 0), 4);
+    let t = done(t, c, 1, s, Call::Shorten(1024, 700, 1), 2560);
+    let t = refuses(t, c, 2, s, Call::Shorten(1024, 0, 1), 4);
+    let t = refuses(t, c, 3, s, Call::Shorten(1, 1, 0), 4);
+    let t = refuses(t, c, 4, s, Call::Shorten(1024, 701, 1), 7);
+    let t = refuses(t, c, 5, s, Call::Shorten(612, 412, 1), 7);
+    refuses(t, c, 6, s, Call::Shorten(0, LARGEST, LARGEST), 7)
 }
 
 fn shortens(t: Tally) -> Tally {
+    let c: &[u8] = b"one byte may remain of a small piece\n\
+                     none may remain of a small piece: refused 9\n\
+                     less than none: refused 9\n\
+                     shortening a small piece by 2^64 - 1 is refused 9\n\
+                     P bytes may remain of a large piece\n\
+                     P - 1 bytes may not remain of a large piece: refused 9\n\
+                     shortening a large piece by 2^64 - 1 is refused 9\n\
+                     a cut of 1024 at the end cuts two pages from the file\n\
+                     a cut of 1000 at the end cuts one page, and a part page stays";
     let s = scenes::five();
-    let c = b"one byte may remain of a small piece";
-    let t = done(t, c, s, Call::Shorten(0, 96, 95), 2560);
-    let c = b"none may remain of a small piece: refused 9";
-    let t = refuses(t, c, s, Call::Shorten(0, 96, 96), 9);
-    let c = b"less than none: refused 9";
-    let t = refuses(t, c, s, Call::Shorten(0, 96, 97), 9);
-    let c = b"shortening a small piece by 2^64 - 1 is refused 9";
-    let t = refuses(t, c, s, Call::Shorten(0, 96, LARGEST), 9);
-    let c = b"P bytes may remain of a large piece";
-    let t = done(t, c, s, Call::Shorten(1024, 700, 188), 2560);
-    let c = b"P - 1 bytes may not remain of a large piece: refused 9";
-    let t = refuses(t, c, s, Call::Shorten(1024, 700, 189), 9);
-    let c = b"shortening a large piece by 2^64 - 1 is refused 9";
-    let t = refuses(t, c, s, Call::Shorten(1024, 700, LARGEST), 9);
+    let t = done(t, c, 0, s, Call::Shorten(0, 96, 95), 2560);
+    let t = refuses(t, c, 1, s, Call::Shorten(0, 96, 96), 9);
+    let t = refuses(t, c, 2, s, Call::Shorten(0, 96, 97), 9);
+    let t = refuses(t, c, 3, s, Call::Shorten(0, 96, LARGEST), 9);
+    let t = done(t, c, 4, s, Call::Shorten(1024, 700, 188), 2560);
+    let t = refuses(t, c, 5, s, Call::Shorten(1024, 700, 189), 9);
+    let t = refuses(t, c, 6, s, Call::Shorten(1024, 700, LARGEST), 9);
     let s = scene::after(scenes::empty(), Call::Allocate(RAW, 2048));
-    let c = b"a cut of 1024 at the end cuts two pages from the file";
-    let t = done(t, c, s, Call::Shorten(0, 2048, 1024), 1024);
-    let c = b"a cut of 1000 at the end cuts one page, and a part page stays";
-    done(t, c, s, Call::Shorten(0, 2048, 1000), 1536)
+    let t = leaves(
+        t,
+        c,
+        7,
+        s,
+        Call::Shorten(0, 2048, 1024),
+        1024,
+        1,
+        one(1024, 3),
+    );
+    leaves(
+        t,
+        c,
+        8,
+        s,
+        Call::Shorten(0, 2048, 1000),
+        1536,
+        2,
+        two(1048, 3, 488, 6),
+    )
 }
 
 pub fn all(t: Tally) -> Tally {

@@ -9,10 +9,8 @@ use show::scene;
 use show::scene::Call;
 use show::scene::Scene;
 use show::text::say;
-use show::text::say_line;
 use show::text::say_number;
 use show::words;
-use space::Space;
 use space::place::METADATA;
 use space::place::RAW;
 
@@ -22,7 +20,7 @@ const LARGEST: u64 = 18446744073709551615;
 
 struct Lists {
     answer: Answer,
-    space: Space,
+    scene: Scene,
     out: [u64; 6],
 }
 
@@ -47,24 +45,27 @@ fn list(s: Scene, manager: u64, len: usize) -> Lists {
     let space = done.space;
     Lists {
         answer: answer::of_list(said),
-        space,
+        scene: Scene {
+            space,
+            words: table,
+            len: s.len,
+        },
         out,
     }
 }
 
-// Whether the answer is this one, the list slice has these words, and the state is as it came.
+// Whether the answer is this one, the list slice has these words, and the table and the state are as they came.
 fn holds(s: Scene, found: Lists, expected: Answer, words: [u64; 6]) -> bool {
     let said = found.answer;
     let out = found.out;
-    let given = s.space;
-    let returned = found.space;
+    let left = found.scene;
     if !answer::same_answer(expected, said) {
         return false;
     }
     if !words::same_words(&words, &out) {
         return false;
     }
-    scene::same_state(given, returned)
+    scene::same_scene(s, left)
 }
 
 pub fn is_refused(s: Scene, manager: u64, number: u64) -> bool {
@@ -72,46 +73,48 @@ pub fn is_refused(s: Scene, manager: u64, number: u64) -> bool {
     holds(s, found, Answer::Refused(number), [7, 7, 7, 7, 7, 7])
 }
 
-fn say_out(out: [u64; 6]) {
-    say(b", with the words ");
-    say_number(out[0]);
+fn say_pair(address: u64, size: u64) {
     say(b" ");
-    say_number(out[1]);
+    say_number(address);
     say(b" ");
-    say_number(out[2]);
-    say(b" ");
-    say_number(out[3]);
+    say_number(size);
+}
+
+fn say_answer_and_out(a: Answer, out: [u64; 6]) {
+    answer::say_answer(a);
+    say(b", with the words");
+    say_pair(out[0], out[1]);
+    say_pair(out[2], out[3]);
     say(b" ..");
 }
 
 fn judge(
     t: Tally,
-    claim: &[u8],
+    text: &[u8],
+    k: u64,
     s: Scene,
     found: Lists,
     expected: Answer,
     words: [u64; 6],
 ) -> Tally {
-    if holds(s, found, expected, words) {
-        claim::say_ok(claim);
-        return t.held();
+    let held = holds(s, found, expected, words);
+    claim::say_claim(held, text, k);
+    if !held {
+        say_answer_and_out(expected, words);
+        say(b", found ");
+        let said = found.answer;
+        let out = found.out;
+        say_answer_and_out(said, out);
+        say(b"\n");
     }
-    claim::say_fail(claim);
-    answer::say_answer(expected);
-    say_out(words);
-    say(b", found ");
-    let said = found.answer;
-    let out = found.out;
-    answer::say_answer(said);
-    say_out(out);
-    say_line(b"");
-    t.failed()
+    t.count(held)
 }
 
 // That one section is listed, and the four words behind it stay.
 fn lists_one(
     t: Tally,
-    claim: &[u8],
+    text: &[u8],
+    k: u64,
     s: Scene,
     manager: u64,
     len: usize,
@@ -121,7 +124,8 @@ fn lists_one(
     let found = list(s, manager, len);
     judge(
         t,
-        claim,
+        text,
+        k,
         s,
         found,
         Answer::Sections(1),
@@ -130,11 +134,20 @@ fn lists_one(
 }
 
 // That the listing is refused with this number, and no word is written.
-fn refuses(t: Tally, claim: &[u8], s: Scene, manager: u64, len: usize, number: u64) -> Tally {
+fn refuses(
+    t: Tally,
+    text: &[u8],
+    k: u64,
+    s: Scene,
+    manager: u64,
+    len: usize,
+    number: u64,
+) -> Tally {
     let found = list(s, manager, len);
     judge(
         t,
-        claim,
+        text,
+        k,
         s,
         found,
         Answer::Refused(number),
@@ -148,57 +161,48 @@ fn two_raw() -> Scene {
 }
 
 fn managers(t: Tally) -> Tally {
+    let c: &[u8] = b"listing manager 0 is refused 3\n\
+                     manager 1 lists (2058, 502)\n\
+                     manager 2 lists (612, 412)\n\
+                     manager 3 lists (1724, 324)\n\
+                     listing manager 4 is refused 3\n\
+                     listing manager 2^64 - 1 is refused 3";
     let s = scenes::five();
-    let t = refuses(t, b"listing manager 0 is refused 3", s, 0, 6, 3);
-    let t = lists_one(t, b"manager 1 lists (2058, 502)", s, METADATA, 6, 2058, 502);
-    let t = lists_one(t, b"manager 2 lists (612, 412)", s, RAW, 6, 612, 412);
-    let t = lists_one(t, b"manager 3 lists (1724, 324)", s, 3, 6, 1724, 324);
-    let t = refuses(t, b"listing manager 4 is refused 3", s, 4, 6, 3);
-    refuses(
-        t,
-        b"listing manager 2^64 - 1 is refused 3",
-        s,
-        LARGEST,
-        6,
-        3,
-    )
+    let t = refuses(t, c, 0, s, 0, 6, 3);
+    let t = lists_one(t, c, 1, s, METADATA, 6, 2058, 502);
+    let t = lists_one(t, c, 2, s, RAW, 6, 612, 412);
+    let t = lists_one(t, c, 3, s, 3, 6, 1724, 324);
+    let t = refuses(t, c, 4, s, 4, 6, 3);
+    refuses(t, c, 5, s, LARGEST, 6, 3)
 }
 
 fn lengths(t: Tally) -> Tally {
+    let c: &[u8] = b"no word for one section is refused 10\n\
+                     1 word for one section is refused 10\n\
+                     2 words hold one section\n\
+                     an unknown manager is 3 before 10\n\
+                     3 words for two sections are refused 10\n\
+                     4 words hold two sections, in address order\n\
+                     no word is enough for no section";
     let s = scenes::five();
-    let t = refuses(t, b"no word for one section is refused 10", s, RAW, 0, 10);
-    let t = refuses(t, b"1 word for one section is refused 10", s, RAW, 1, 10);
-    let t = lists_one(t, b"2 words hold one section", s, RAW, 2, 612, 412);
-    let t = refuses(t, b"an unknown manager is 3 before 10", s, 4, 0, 3);
+    let t = refuses(t, c, 0, s, RAW, 0, 10);
+    let t = refuses(t, c, 1, s, RAW, 1, 10);
+    let t = lists_one(t, c, 2, s, RAW, 2, 612, 412);
+    let t = refuses(t, c, 3, s, 4, 0, 3);
     let two = two_raw();
-    let t = refuses(
-        t,
-        b"3 words for two sections are refused 10",
-        two,
-        RAW,
-        3,
-        10,
-    );
+    let t = refuses(t, c, 4, two, RAW, 3, 10);
     let found = list(two, RAW, 4);
     let words = [612, 412, 3060, 12, 7, 7];
-    let claim = b"4 words hold two sections, in address order";
-    let t = judge(t, claim, two, found, Answer::Sections(2), words);
+    let t = judge(t, c, 5, two, found, Answer::Sections(2), words);
     let none = scenes::empty();
     let found = list(none, RAW, 0);
     let words = [7, 7, 7, 7, 7, 7];
-    let claim = b"no word is enough for no section";
-    judge(t, claim, none, found, Answer::Sections(0), words)
+    judge(t, c, 6, none, found, Answer::Sections(0), words)
 }
 
 pub fn all(t: Tally) -> Tally {
+    let c: &[u8] = b"listing the state of a refused opening is refused 2";
     let closed = scenes::opened(511, 5120, 36);
-    let t = refuses(
-        t,
-        b"listing the state of a refused opening is refused 2",
-        closed,
-        RAW,
-        6,
-        2,
-    );
+    let t = refuses(t, c, 0, closed, RAW, 6, 2);
     lengths(managers(t))
 }

@@ -8,6 +8,7 @@ mod listing;
 mod opening;
 mod requests;
 mod scenes;
+mod thousand;
 
 use show::claim::Tally;
 use show::text::say_line;
@@ -18,7 +19,7 @@ fn main() {
     say_line(b"requests");
     let t = requests::all(t);
     say_line(b"release, extend, shorten");
-    let t = giving::all(t);
+    let t = thousand::all(giving::all(t));
     say_line(b"full tables");
     let t = full::all(t);
     say_line(b"listing");

@@ -7,7 +7,7 @@ use show::answer::Answer;
 use show::claim;
 use show::claim::Tally;
 use show::scene;
-use show::text::say_line;
+use show::text::say;
 use space::Space;
 
 const LONG_WORDS: usize = 3078;
@@ -84,81 +84,96 @@ fn state(page: u64, limit: u64) -> Space {
     }
 }
 
-fn judge(t: Tally, claim: &[u8], held: bool, found: LongOpened) -> Tally {
-    if held {
-        claim::say_ok(claim);
-        return t.held();
+fn judge(t: Tally, text: &[u8], k: u64, held: bool, found: LongOpened) -> Tally {
+    claim::say_claim(held, text, k);
+    if !held {
+        say(b"that answer, its state and its words, found others; the answer found: ");
+        let said = found.answer;
+        answer::say_answer(said);
+        say(b"\n");
     }
-    claim::say_fail(claim);
-    say_line(b"that answer, its state and its words, found others; the answer found:");
-    let said = found.answer;
-    answer::say_answer(said);
-    say_line(b"");
-    t.failed()
+    t.count(held)
 }
 
 // That the opening is done, gives E = 0 and n = 0, and makes every lent word 0.
-fn opens(t: Tally, claim: &[u8], page: u64, limit: u64, len: usize) -> Tally {
+fn opens(t: Tally, text: &[u8], k: u64, page: u64, limit: u64, len: usize) -> Tally {
     let found = open(page, limit, len);
     let said = found.answer;
     let now = found.space;
     if answer::same_answer(Answer::Done, said) {
         if scene::same_state(state(page, limit), now) {
-            return judge(t, claim, is_cleared(found, len), found);
+            return judge(t, text, k, is_cleared(found, len), found);
         }
     }
-    judge(t, claim, false, found)
+    judge(t, text, k, false, found)
 }
 
 // That the opening is refused with 1, gives four zeros, and leaves every word.
-fn refuses(t: Tally, claim: &[u8], page: u64, limit: u64, len: usize) -> Tally {
+fn refuses(t: Tally, text: &[u8], k: u64, page: u64, limit: u64, len: usize) -> Tally {
     let found = open(page, limit, len);
     let said = found.answer;
     let now = found.space;
     if answer::same_answer(Answer::Refused(1), said) {
         if scene::same_state(state(0, 0), now) {
-            return judge(t, claim, is_cleared(found, 0), found);
+            return judge(t, text, k, is_cleared(found, 0), found);
         }
     }
-    judge(t, claim, false, found)
+    judge(t, text, k, false, found)
 }
 
 fn pages(t: Tally) -> Tally {
-    let t = refuses(t, b"P = 0 is refused 1", 0, 5120, 36);
-    let t = refuses(t, b"P = 511 is refused 1", 511, 5120, 36);
-    let t = opens(t, b"P = 512 is opened", 512, 5120, 36);
-    let t = opens(t, b"P = 1000 is opened", 1000, 5000, 36);
-    let t = opens(t, b"P = 2^30 is opened", 1073741824, LARGEST_LIMIT, 36);
-    let t = refuses(
-        t,
-        b"P = 2^30 + 1 is refused 1",
-        1073741825,
-        LARGEST_LIMIT,
-        36,
-    );
-    refuses(t, b"P = 2^64 - 1 is refused 1", LARGEST, LARGEST, 36)
+    let c: &[u8] = b"P = 0 is refused 1\n\
+                     P = 511 is refused 1\n\
+                     P = 512 is opened\n\
+                     P = 1000 is opened\n\
+                     P = 2^30 is opened\n\
+                     P = 2^30 + 1 is refused 1\n\
+                     P = 2^64 - 1 is refused 1";
+    let t = refuses(t, c, 0, 0, 5120, 36);
+    let t = refuses(t, c, 1, 511, 5120, 36);
+    let t = opens(t, c, 2, 512, 5120, 36);
+    let t = opens(t, c, 3, 1000, 5000, 36);
+    let t = opens(t, c, 4, 1073741824, LARGEST_LIMIT, 36);
+    let t = refuses(t, c, 5, 1073741825, LARGEST_LIMIT, 36);
+    refuses(t, c, 6, LARGEST, LARGEST, 36)
 }
 
 fn limits(t: Tally) -> Tally {
-    let t = refuses(t, b"M = 0 is refused 1", 512, 0, 36);
-    let t = refuses(t, b"M = P - 1 is refused 1", 512, 511, 36);
-    let t = opens(t, b"M = P is opened", 512, 512, 36);
-    let t = opens(t, b"M = 2^62 is opened", 512, LARGEST_LIMIT, 36);
-    let t = refuses(t, b"M = 2^62 + 1 is refused 1", 512, LARGEST_LIMIT + 1, 36);
-    refuses(t, b"M = 2^64 - 1 is refused 1", 512, LARGEST, 36)
+    let c: &[u8] = b"M = 0 is refused 1\n\
+                     M = P - 1 is refused 1\n\
+                     M = P is opened\n\
+                     M = 2^62 is opened\n\
+                     M = 2^62 + 1 is refused 1\n\
+                     M = 2^64 - 1 is refused 1";
+    let t = refuses(t, c, 0, 512, 0, 36);
+    let t = refuses(t, c, 1, 512, 511, 36);
+    let t = opens(t, c, 2, 512, 512, 36);
+    let t = opens(t, c, 3, 512, LARGEST_LIMIT, 36);
+    let t = refuses(t, c, 4, 512, LARGEST_LIMIT + 1, 36);
+    refuses(t, c, 5, 512, LARGEST, 36)
 }
 
 fn lengths(t: Tally) -> Tally {
-    let t = refuses(t, b"a table of no words is refused 1", 512, 5120, 0);
-    let t = refuses(t, b"9 words are refused 1", 512, 5120, 9);
-    let t = refuses(t, b"11 words are refused 1", 512, 5120, 11);
-    let t = opens(t, b"12 words are opened, C = 4", 512, 5120, 12);
-    let t = refuses(t, b"13 words are refused 1", 512, 5120, 13);
-    let t = refuses(t, b"14 words are refused 1", 512, 5120, 14);
-    let t = opens(t, b"15 words are opened", 512, 5120, 15);
-    let t = opens(t, b"3072 words are opened, C = 1024", 512, 5120, 3072);
-    let t = refuses(t, b"3073 words are refused 1", 512, 5120, 3073);
-    refuses(t, b"3075 words are refused 1", 512, 5120, 3075)
+    let c: &[u8] = b"a table of no words is refused 1\n\
+                     9 words are refused 1\n\
+                     11 words are refused 1\n\
+                     12 words are opened, C = 4\n\
+                     13 words are refused 1\n\
+                     14 words are refused 1\n\
+                     15 words are opened\n\
+                     3072 words are opened, C = 1024\n\
+                     3073 words are refused 1\n\
+                     3075 words are refused 1";
+    let t = refuses(t, c, 0, 512, 5120, 0);
+    let t = refuses(t, c, 1, 512, 5120, 9);
+    let t = refuses(t, c, 2, 512, 5120, 11);
+    let t = opens(t, c, 3, 512, 5120, 12);
+    let t = refuses(t, c, 4, 512, 5120, 13);
+    let t = refuses(t, c, 5, 512, 5120, 14);
+    let t = opens(t, c, 6, 512, 5120, 15);
+    let t = opens(t, c, 7, 512, 5120, 3072);
+    let t = refuses(t, c, 8, 512, 5120, 3073);
+    refuses(t, c, 9, 512, 5120, 3075)
 }
 
 pub fn all(t: Tally) -> Tally {

@@ -1,4 +1,5 @@
 // The tables that the cases start from.
+use show::document;
 use show::scene;
 use show::scene::Call;
 use show::scene::Scene;
@@ -22,26 +23,9 @@ pub fn one() -> Scene {
     scene::after(empty(), Call::Allocate(METADATA, 96))
 }
 
-fn first_four() -> [u64; 96] {
-    let w = scene::blank();
-    let w = scene::with_entry(w, 0, 0, 96, 1);
-    let w = scene::with_entry(w, 1, 96, 416, 1);
-    let w = scene::with_entry(w, 2, 512, 100, 2);
-    scene::with_entry(w, 3, 612, 412, 5)
-}
-
-// The words of document 01's table after step 5.
-fn eight() -> [u64; 96] {
-    let w = first_four();
-    let w = scene::with_entry(w, 4, 1024, 700, 3);
-    let w = scene::with_entry(w, 5, 1724, 324, 6);
-    let w = scene::with_entry(w, 6, 2048, 10, 1);
-    scene::with_entry(w, 7, 2058, 502, 4)
-}
-
-// Those words with a state of four numbers.
+// The words of document 01's table after step 5, with a state of four numbers.
 pub fn with_state(page: u64, limit: u64, end: u64, count: u64) -> Scene {
-    let words = eight();
+    let words = document::after_step_five();
     let space = Space {
         page,
         limit,

@@ -1,18 +1,17 @@
 -- What `main` lends, and what a run keeps.
 --
---   lineBytes, tableWords, messageBytes   the bytes of a line, the words of a table, the bytes of a message: the most that a script may name
---   mostRoom                              the most words or bytes that are lent to a call
---   Lent table args bytes                 the lent slices have these lengths
---   Kept s r                              r has the words of the lent table and the bytes of the line that s has
---   Carried r                             a run's table is no longer than the lent one, and its line has room
---   WriteFits args                        the words of `write` fit their fields and the lent bytes
---   Rows page end                         a page has a byte, and nothing overflows when a file is drawn page by page
+--   lineBytes, tableWords   the bytes of a line, the words of a table: the most that a script may name
+--   mostRoom                the most words or bytes that are lent to a call
+--   Kept s r                r has the words of the lent table and the bytes of the line that s has
+--   Carried r               a run's table is no longer than the lent one, and its line has room
+--   WriteFits args          the words of `write` fit their fields and the lent bytes
+--   Rows page end           a page has a byte, and nothing overflows when a file is drawn page by page
 --
 -- Assumes nothing.
 use mathlib.Core.Path.{_≡_}
 use mathlib.Core.List.{List}
 use Prim.Native.Nat.{ℕ, _<_, _≤_}
-use lib.ListN.{length, getD}
+use lib.ListN.{getD}
 use Rattle.filespace.specs.declared.report.Run.{Run}
 
 abbrev pub lineBytes : ℕ
@@ -21,16 +20,8 @@ lineBytes = 100000
 abbrev pub tableWords : ℕ
 tableWords = 6144
 
-abbrev pub messageBytes : ℕ
-messageBytes = 50000
-
 abbrev pub mostRoom : ℕ
 mostRoom = 4096
-
-pub record Lent (table args bytes : List ℕ) : Type 0 where
-  pub table-words : length table ≡ tableWords
-  pub args-words : length args ≡ tableWords
-  pub message-bytes : length bytes ≡ messageBytes
 
 pub record Kept (s r : Run) : Type 0 where
   pub used : r .used ≡ s .used

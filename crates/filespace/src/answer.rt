@@ -1,17 +1,17 @@
 // One line: its call is named, its words are counted, its numbers are read, and then the call is made. What is wrong is said, and changes nothing.
-ghost use mathlib.Core.Path.{_≡_};
 ghost use Prim.Native.Nat.{_≤_};
 ghost use lib.ListN.{length};
-ghost use Rattle.filespace.specs.Lent.{Kept, Lent, lineBytes, tableWords, messageBytes};
+ghost use Rattle.filespace.specs.Lent.{lineBytes, tableWords};
+use crate::TABLE_WORDS;
 use crate::calls;
 use crate::calls::Call;
 use crate::give;
 use crate::info;
 use crate::map;
+use crate::report;
 use crate::report::Run;
 use crate::tables;
 use script::numbers::Number;
-use script::words::Word;
 
 // The numbers of a line.
 pub enum Numbers {
@@ -63,26 +63,25 @@ fn play(
     run: Run,
     call: Call,
     count: usize,
-    table: &mut [u64],
-    args: &mut [u64],
-    bytes: &mut [u8],
-    out: &mut [u8],
+    args: &[u64; TABLE_WORDS],
+    table: &mut [u64; TABLE_WORDS],
 ) -> Run
-    requires { ⌜ (Lent (now table) (now args) (now bytes) × (run .used ≤ tableWords)) × (count ≤ tableWords) ⌝ }
+    requires { ⌜ (run .used ≤ tableWords) × (count ≤ tableWords) ⌝ }
     ensures { λ r. ⌜ r .used ≤ tableWords ⌝ }
 {
     match call {
-        Call::Open => give::open(run, args[0], args[1], args[2], table, out),
-        Call::Default => give::open_default(run, args[0], table, out),
-        Call::Allocate => give::allocate(run, args[0], args[1], table, out),
-        Call::Release => give::release(run, args[0], args[1], table, out),
-        Call::Extend => give::extend(run, args[0], args[1], args[2], table, out),
-        Call::Shorten => give::shorten(run, args[0], args[1], args[2], table, out),
-        Call::List => give::list(run, args, table, out),
-        Call::State => give::state(run, args, out),
-        Call::Words => give::words(run, count, args, table, out),
-        Call::Write => info::write(run, args, bytes, out),
-        _ => run,
+        Call::Open | Call::Default => give::open(run, call, args, table),
+        Call::List => {
+            give::list(run, args, table);
+            run
+        }
+        Call::State => give::state(run, args),
+        Call::Words => give::words(run, count, args, table),
+        Call::Write => {
+            info::write(run.line, args);
+            run
+        }
+        _ => give::change(run, call, args, table),
     }
 }
 
@@ -92,81 +91,64 @@ fn answer_numbers(
     line: &[u8],
     from: usize,
     count: usize,
-    table: &mut [u64],
-    args: &mut [u64],
-    bytes: &mut [u8],
-    out: &mut [u8],
+    table: &mut [u64; TABLE_WORDS],
 ) -> Run
-    requires { ⌜ (Lent (now table) (now args) (now bytes) × (run .used ≤ tableWords)) × (from ≤ length (now line)) ⌝ }
+    requires { ⌜ (run .used ≤ tableWords) × (from ≤ length (now line)) ⌝ }
     ensures { λ r. ⌜ r .used ≤ tableWords ⌝ }
 {
-    if args.len() < count {
-        return run.wrong(b"too many", out);
+    let mut args = [0u64; TABLE_WORDS];
+    if TABLE_WORDS < count {
+        report::wrong(run.line, b"too many");
+        return run;
     }
-    match read_numbers(call, line, from, count, args) {
-        Numbers::Read => play(run, call, count, table, args, bytes, out),
-        Numbers::TooLarge => run.wrong(b"number too large", out),
-        Numbers::NoNumber => run.wrong(b"not a number", out),
+    match read_numbers(call, line, from, count, &mut args) {
+        Numbers::Read => {
+            return play(run, call, count, &args, table);
+        }
+        Numbers::TooLarge => report::wrong(run.line, b"number too large"),
+        Numbers::NoNumber => report::wrong(run.line, b"not a number"),
     }
+    run
 }
 
 // The one word that `show` takes.
-fn show(run: Run, line: &[u8], from: usize, table: &[u64], out: &mut [u8]) -> Run
-    requires { ⌜ (from ≤ length (now line)) × ((run .used ≤ tableWords) × (length (now table) ≡ tableWords)) ⌝ }
-    ensures { λ r. ⌜ Kept run r ⌝ }
+fn show(run: Run, line: &[u8], from: usize, table: &[u64])
+    requires { ⌜ (from ≤ length (now line)) × (run .used ≤ length (now table)) ⌝ }
 {
     let word = script::words::next_word(line, from);
     let start = word.from;
     let end = word.to;
     if script::words::is_text(&line[start..end], b"words") {
-        return tables::show_words(run, table, out);
+        tables::show_words(run, table);
+        return;
     }
-    run.wrong(b"no call", out)
+    report::wrong(run.line, b"no call");
 }
 
-fn read(run: Run, line: &[u8], from: usize, bytes: &mut [u8], out: &mut [u8]) -> Run
-    requires { ⌜ (from ≤ length (now line)) × ((length (now line) ≤ lineBytes) × (length (now bytes) ≡ messageBytes)) ⌝ }
-    ensures { λ r. ⌜ Kept run r ⌝ }
+fn read(number: u64, line: &[u8], from: usize)
+    requires { ⌜ (from ≤ length (now line)) × (length (now line) ≤ lineBytes) ⌝ }
 {
     let word = script::words::next_word(line, from);
     let start = word.from;
     let end = word.to;
-    info::read(run, &line[start..end], bytes, out)
+    info::read(number, &line[start..end]);
 }
 
-fn answer_call(
-    run: Run,
-    call: Call,
-    line: &[u8],
-    from: usize,
-    count: usize,
-    table: &mut [u64],
-    args: &mut [u64],
-    bytes: &mut [u8],
-    out: &mut [u8],
-) -> Run
-    requires { ⌜ (Lent (now table) (now args) (now bytes) × (run .used ≤ tableWords)) × ((from ≤ length (now line)) × (length (now line) ≤ lineBytes)) ⌝ }
-    ensures { λ r. ⌜ r .used ≤ tableWords ⌝ }
+// A call that changes nothing, and reads no numbers.
+fn look(run: Run, call: Call, line: &[u8], from: usize, table: &[u64])
+    requires { ⌜ (run .used ≤ length (now table)) × ((from ≤ length (now line)) × (length (now line) ≤ lineBytes)) ⌝ }
 {
     match call {
-        Call::NoCall => run.wrong(b"no call", out),
-        Call::Table => tables::table(run, table, out),
-        Call::Map => map::map(run, table, out),
-        Call::Show => show(run, line, from, table, out),
-        Call::Read => read(run, line, from, bytes, out),
-        _ => answer_numbers(run, call, line, from, count, table, args, bytes, out),
+        Call::Table => tables::table(run, table),
+        Call::Map => map::map(run, table),
+        Call::Show => show(run, line, from, table),
+        Call::Read => read(run.line, line, from),
+        _ => report::wrong(run.line, b"no call"),
     }
 }
 
-pub fn answer(
-    run: Run,
-    line: &[u8],
-    table: &mut [u64],
-    args: &mut [u64],
-    bytes: &mut [u8],
-    out: &mut [u8],
-) -> Run
-    requires { ⌜ (Lent (now table) (now args) (now bytes) × (run .used ≤ tableWords)) × (length (now line) ≤ lineBytes) ⌝ }
+pub fn answer(run: Run, line: &[u8], table: &mut [u64; TABLE_WORDS]) -> Run
+    requires { ⌜ (run .used ≤ tableWords) × (length (now line) ≤ lineBytes) ⌝ }
     ensures { λ r. ⌜ r .used ≤ tableWords ⌝ }
 {
     let word = script::words::next_word(line, 0);
@@ -177,8 +159,13 @@ pub fn answer(
     }
     let call = calls::call_of(&line[start..end]);
     let count = script::words::count_words(line, end);
-    if calls::takes(call, count) {
-        return answer_call(run, call, line, end, count, table, args, bytes, out);
+    if !calls::takes(call, count) {
+        report::wrong(run.line, b"wrong count of words");
+        return run;
     }
-    run.wrong(b"wrong count of words", out)
+    if calls::reads_numbers(call) {
+        return answer_numbers(run, call, line, end, count, table);
+    }
+    look(run, call, line, end, table);
+    run
 }

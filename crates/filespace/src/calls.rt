@@ -1,5 +1,6 @@
 // The calls by their names, and how many words each takes.
 use script::words::is_text;
+use script::words::next_word;
 
 pub enum Call {
     Open,
@@ -19,55 +20,49 @@ pub enum Call {
     NoCall,
 }
 
-// The calls on a space.
-pub fn call_of(word: &[u8]) -> Call {
-    if is_text(word, b"allocate") {
-        return Call::Allocate;
+// How many of the first `count` names stand before this word; `count`, where it is none of them.
+fn place_in(names: &[u8], count: usize, word: &[u8]) -> usize {
+    let mut at = 0;
+    let mut i = 0;
+    while i < count {
+        let name = next_word(names, at);
+        let start = name.from;
+        let end = name.to;
+        if is_text(word, &names[start..end]) {
+            return i;
+        }
+        at = end;
+        i += 1;
     }
-    if is_text(word, b"release") {
-        return Call::Release;
-    }
-    if is_text(word, b"extend") {
-        return Call::Extend;
-    }
-    if is_text(word, b"shorten") {
-        return Call::Shorten;
-    }
-    if is_text(word, b"list") {
-        return Call::List;
-    }
-    if is_text(word, b"open") {
-        return Call::Open;
-    }
-    if is_text(word, b"default") {
-        return Call::Default;
-    }
-    other_of(word)
+    i
 }
 
-fn other_of(word: &[u8]) -> Call {
-    if is_text(word, b"state") {
-        return Call::State;
+fn call_at(place: usize) -> Call {
+    match place {
+        0 => Call::Open,
+        1 => Call::Default,
+        2 => Call::Allocate,
+        3 => Call::Release,
+        4 => Call::Extend,
+        5 => Call::Shorten,
+        6 => Call::List,
+        7 => Call::State,
+        8 => Call::Words,
+        9 => Call::Table,
+        10 => Call::Map,
+        11 => Call::Show,
+        12 => Call::Read,
+        13 => Call::Write,
+        _ => Call::NoCall,
     }
-    if is_text(word, b"words") {
-        return Call::Words;
-    }
-    if is_text(word, b"table") {
-        return Call::Table;
-    }
-    if is_text(word, b"map") {
-        return Call::Map;
-    }
-    if is_text(word, b"show") {
-        return Call::Show;
-    }
-    if is_text(word, b"read") {
-        return Call::Read;
-    }
-    if is_text(word, b"write") {
-        return Call::Write;
-    }
-    Call::NoCall
+}
+
+pub fn call_of(word: &[u8]) -> Call {
+    call_at(place_in(
+        b"open default allocate release extend shorten list state words table map show read write",
+        14,
+        word,
+    ))
 }
 
 // Whether a call takes so many words.
@@ -91,28 +86,29 @@ pub fn takes(call: Call, count: usize) -> bool {
     }
 }
 
-// The number that a type or a manager has by name, or 0.
-pub fn named(call: Call, word: &[u8]) -> u64 {
+// How many names the first word of a call may have: of the types, or of the managers.
+fn names_of(call: Call) -> usize {
     match call {
-        Call::Allocate => type_named(word),
-        Call::List => manager_named(word),
+        Call::Allocate => 2,
+        Call::List => 3,
         _ => 0,
     }
 }
 
-fn type_named(word: &[u8]) -> u64 {
-    if is_text(word, b"metadata") {
-        return 1;
-    }
-    if is_text(word, b"raw") {
-        return 2;
+// The number that a type or a manager has by name, or 0.
+pub fn named(call: Call, word: &[u8]) -> u64 {
+    let count = names_of(call);
+    let place = place_in(b"metadata raw large", count, word);
+    if place < count {
+        return place as u64 + 1;
     }
     0
 }
 
-fn manager_named(word: &[u8]) -> u64 {
-    if is_text(word, b"large") {
-        return 3;
+// Whether the words of a call are numbers.
+pub fn reads_numbers(call: Call) -> bool {
+    match call {
+        Call::Table | Call::Map | Call::Show | Call::Read | Call::NoCall => false,
+        _ => true,
     }
-    type_named(word)
 }

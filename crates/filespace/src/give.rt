@@ -1,9 +1,12 @@
 // The calls on a space, each answered in one line.
 ghost use mathlib.Core.Path.{_≡_};
-ghost use Prim.Native.Nat.{_*_, _≤_, _<_};
+ghost use Prim.Native.Nat.{_≤_};
 ghost use lib.ListN.{length};
 ghost use Rattle.space.specs.Answers.{openNumber, allocateNumber, releaseNumber, extendNumber, shortenNumber, listNumber};
-ghost use Rattle.filespace.specs.Lent.{Kept, tableWords};
+ghost use Rattle.filespace.specs.Lent.{tableWords};
+use crate::TABLE_WORDS;
+use crate::calls::Call;
+use crate::report;
 use crate::report::Run;
 use crate::say;
 use space::Space;
@@ -20,7 +23,7 @@ const PAIR_WORDS: usize = 2;
 
 const MOST_ENTRIES: u64 = 2048;
 
-const MOST_ROOM: u64 = 4096;
+const MOST_ROOM: usize = 4096;
 
 fn open_number(answer: OpenAnswer) -> u64
     ensures { λ r. ⌜ r ≡ openNumber answer ⌝ }
@@ -104,108 +107,126 @@ fn clear(table: &mut [u64]) {
     }
 }
 
-pub fn open(run: Run, page: u64, limit: u64, entries: u64, table: &mut [u64], out: &mut [u8]) -> Run
-    requires { ⌜ (run .used ≤ tableWords) × (length (now table) ≡ tableWords) ⌝ }
-    ensures { λ r. ⌜ r .used ≤ tableWords ⌝ }
-{
-    if MOST_ENTRIES < entries {
-        return run.wrong(b"too many", out);
-    }
-    clear(table);
-    let used = entries as usize * ENTRY_WORDS;
-    let r = Space::open(page, limit, &mut table[..used]);
+fn open_by_default(table: &mut [u64]) -> Space {
+    let r = Space::open_default(table);
     let space = r.space;
     let answer = r.answer;
-    run.lent(used).told(space, open_number(answer), out)
+    report::told(space, open_number(answer));
+    space
 }
 
-pub fn open_default(run: Run, entries: u64, table: &mut [u64], out: &mut [u8]) -> Run
+fn open_with(page: u64, limit: u64, table: &mut [u64]) -> Space {
+    let r = Space::open(page, limit, table);
+    let space = r.space;
+    let answer = r.answer;
+    report::told(space, open_number(answer));
+    space
+}
+
+// The opening that the call is.
+fn opened(call: Call, args: &[u64; TABLE_WORDS], table: &mut [u64]) -> Space {
+    match call {
+        Call::Default => open_by_default(table),
+        _ => open_with(args[0], args[1], table),
+    }
+}
+
+// How many entries an opening names.
+fn entries_named(call: Call, args: &[u64; TABLE_WORDS]) -> u64 {
+    match call {
+        Call::Default => args[0],
+        _ => args[2],
+    }
+}
+
+pub fn open(run: Run, call: Call, args: &[u64; TABLE_WORDS], table: &mut [u64]) -> Run
     requires { ⌜ (run .used ≤ tableWords) × (length (now table) ≡ tableWords) ⌝ }
     ensures { λ r. ⌜ r .used ≤ tableWords ⌝ }
 {
+    let entries = entries_named(call, args);
     if MOST_ENTRIES < entries {
-        return run.wrong(b"too many", out);
+        report::wrong(run.line, b"too many");
+        return run;
     }
     clear(table);
     let used = entries as usize * ENTRY_WORDS;
-    let r = Space::open_default(&mut table[..used]);
-    let space = r.space;
-    let answer = r.answer;
-    run.lent(used).told(space, open_number(answer), out)
+    let space = opened(call, args, &mut table[..used]);
+    run.lent(space, used)
 }
 
 // The address, or the refusal.
-fn told_address(run: Run, space: Space, answer: AllocateAnswer, out: &mut [u8]) -> Run
-    ensures { λ r. ⌜ Kept run r ⌝ }
-{
+fn told_place(space: Space, answer: AllocateAnswer) {
     if let AllocateAnswer::At(address) = answer {
-        return run.placed(space, address, out);
+        report::placed(space, address);
+        return;
     }
-    run.refused(space, allocate_number(answer), out)
+    report::told(space, allocate_number(answer));
 }
 
-pub fn allocate(run: Run, code: u64, size: u64, table: &mut [u64], out: &mut [u8]) -> Run
+fn allocate(space: Space, args: &[u64; TABLE_WORDS], table: &mut [u64]) -> Space {
+    let r = space.allocate(table, args[0], args[1]);
+    let now = r.space;
+    let answer = r.answer;
+    told_place(now, answer);
+    now
+}
+
+fn release(space: Space, args: &[u64; TABLE_WORDS], table: &mut [u64]) -> Space {
+    let r = space.release(table, args[0], args[1]);
+    let now = r.space;
+    let answer = r.answer;
+    report::told(now, release_number(answer));
+    now
+}
+
+fn extend(space: Space, args: &[u64; TABLE_WORDS], table: &mut [u64]) -> Space {
+    let r = space.extend(table, args[0], args[1], args[2]);
+    let now = r.space;
+    let answer = r.answer;
+    report::told(now, extend_number(answer));
+    now
+}
+
+fn shorten(space: Space, args: &[u64; TABLE_WORDS], table: &mut [u64]) -> Space {
+    let r = space.shorten(table, args[0], args[1], args[2]);
+    let now = r.space;
+    let answer = r.answer;
+    report::told(now, shorten_number(answer));
+    now
+}
+
+// The call, on the lent table.
+fn ask(space: Space, call: Call, args: &[u64; TABLE_WORDS], table: &mut [u64]) -> Space {
+    match call {
+        Call::Allocate => allocate(space, args, table),
+        Call::Release => release(space, args, table),
+        Call::Extend => extend(space, args, table),
+        _ => shorten(space, args, table),
+    }
+}
+
+pub fn change(run: Run, call: Call, args: &[u64; TABLE_WORDS], table: &mut [u64]) -> Run
     requires { ⌜ (run .used ≤ tableWords) × (length (now table) ≡ tableWords) ⌝ }
     ensures { λ r. ⌜ r .used ≤ tableWords ⌝ }
 {
     let used = run.used;
     let before = run.space;
-    let r = before.allocate(&mut table[..used], code, size);
-    let space = r.space;
-    let answer = r.answer;
-    told_address(run, space, answer, out)
-}
-
-pub fn release(run: Run, address: u64, size: u64, table: &mut [u64], out: &mut [u8]) -> Run
-    requires { ⌜ (run .used ≤ tableWords) × (length (now table) ≡ tableWords) ⌝ }
-    ensures { λ r. ⌜ r .used ≤ tableWords ⌝ }
-{
-    let used = run.used;
-    let before = run.space;
-    let r = before.release(&mut table[..used], address, size);
-    let space = r.space;
-    let answer = r.answer;
-    run.told(space, release_number(answer), out)
-}
-
-pub fn extend(run: Run, address: u64, size: u64, by: u64, table: &mut [u64], out: &mut [u8]) -> Run
-    requires { ⌜ (run .used ≤ tableWords) × (length (now table) ≡ tableWords) ⌝ }
-    ensures { λ r. ⌜ r .used ≤ tableWords ⌝ }
-{
-    let used = run.used;
-    let before = run.space;
-    let r = before.extend(&mut table[..used], address, size, by);
-    let space = r.space;
-    let answer = r.answer;
-    run.told(space, extend_number(answer), out)
-}
-
-pub fn shorten(run: Run, address: u64, size: u64, by: u64, table: &mut [u64], out: &mut [u8]) -> Run
-    requires { ⌜ (run .used ≤ tableWords) × (length (now table) ≡ tableWords) ⌝ }
-    ensures { λ r. ⌜ r .used ≤ tableWords ⌝ }
-{
-    let used = run.used;
-    let before = run.space;
-    let r = before.shorten(&mut table[..used], address, size, by);
-    let space = r.space;
-    let answer = r.answer;
-    run.told(space, shorten_number(answer), out)
+    let space = ask(before, call, args, &mut table[..used]);
+    run.lent(space, used)
 }
 
 // A pair of a listing.
-fn say_pair(out: &mut [u8], at: usize, address: u64, size: u64) -> usize {
-    let next = say::spaced(out, at, address);
-    say::labelled(out, next, b"+", size)
+fn say_pair(address: u64, size: u64) {
+    say::spaced(address);
+    say::labelled(b"+", size);
 }
 
-fn say_pairs(out: &mut [u8], from: usize, pairs: &[u64]) -> usize {
-    let mut at = from;
+fn say_pairs(pairs: &[u64]) {
     let mut i = 0;
     while i + 1 < pairs.len() {
-        at = say_pair(out, at, pairs[i], pairs[i + 1]);
+        say_pair(pairs[i], pairs[i + 1]);
         i += PAIR_WORDS;
     }
-    at
 }
 
 // The words of the pairs, of which no more are lent than there are.
@@ -220,53 +241,44 @@ fn pair_words(count: u64, len: usize) -> usize
     most * PAIR_WORDS
 }
 
-fn sections(run: Run, count: u64, room: &[u64], out: &mut [u8]) -> Run
-    ensures { λ r. ⌜ Kept run r ⌝ }
-{
+fn sections(count: u64, room: &[u64]) {
     let words = pair_words(count, room.len());
-    let a = say::number(out, run.at, count);
-    let b = say::text(out, a, b" sections:");
-    let c = say_pairs(out, b, &room[..words]);
-    run.said(say::text(out, c, b"\n"))
+    say::number(count);
+    say::text(b" sections:");
+    say_pairs(&room[..words]);
 }
 
-fn told_list(run: Run, answer: ListAnswer, room: &[u64], out: &mut [u8]) -> Run
-    ensures { λ r. ⌜ Kept run r ⌝ }
-{
+fn told_list(answer: ListAnswer, room: &[u64]) {
     if let ListAnswer::Sections(count) = answer {
-        return sections(run, count, room, out);
+        sections(count, room);
+        return;
     }
-    let at = say::labelled(out, run.at, b"refused ", list_number(answer));
-    run.said(say::text(out, at, b"\n"))
+    report::say_told(list_number(answer));
 }
 
-fn list_into(run: Run, manager: u64, room: &mut [u64], table: &[u64], out: &mut [u8]) -> Run
-    requires { ⌜ (run .used ≤ tableWords) × (length (now table) ≡ tableWords) ⌝ }
-    ensures { λ r. ⌜ Kept run r ⌝ }
-{
-    let used = run.used;
-    let before = run.space;
-    let r = before.list(&table[..used], manager, room);
+fn list_into(space: Space, table: &[u64], manager: u64, room: &mut [u64]) {
+    let r = space.list(table, manager, room);
     let answer = r.answer;
-    told_list(run, answer, room, out)
+    told_list(answer, room);
+    say::text(b"\n");
 }
 
-pub fn list(run: Run, args: &mut [u64], table: &[u64], out: &mut [u8]) -> Run
-    requires { ⌜ ((run .used ≤ tableWords) × (length (now table) ≡ tableWords)) × (length (now args) ≡ tableWords) ⌝ }
-    ensures { λ r. ⌜ r .used ≤ tableWords ⌝ }
+pub fn list(run: Run, args: &[u64; TABLE_WORDS], table: &[u64])
+    requires { ⌜ run .used ≤ length (now table) ⌝ }
 {
-    let manager = args[0];
-    let wanted = args[1];
-    if MOST_ROOM < wanted {
-        return run.wrong(b"too many", out);
+    let mut room = [0u64; MOST_ROOM];
+    if (MOST_ROOM as u64) < args[1] {
+        report::wrong(run.line, b"too many");
+        return;
     }
-    let room = wanted as usize;
-    list_into(run, manager, &mut args[..room], table, out)
+    let wanted = args[1] as usize;
+    let used = run.used;
+    let space = run.space;
+    list_into(space, &table[..used], args[0], &mut room[..wanted]);
 }
 
-pub fn state(run: Run, args: &[u64], out: &mut [u8]) -> Run
-    requires { ⌜ (run .used ≤ tableWords) × (length (now args) ≡ tableWords) ⌝ }
-    ensures { λ r. ⌜ r .used ≤ tableWords ⌝ }
+pub fn state(run: Run, args: &[u64; TABLE_WORDS]) -> Run
+    ensures { λ r. ⌜ r .used ≡ run .used ⌝ }
 {
     let space = Space {
         page: args[0],
@@ -274,7 +286,8 @@ pub fn state(run: Run, args: &[u64], out: &mut [u8]) -> Run
         end: args[2],
         count: args[3],
     };
-    run.holding(space).set(out)
+    say::text(b"set\n");
+    run.lent(space, run.used)
 }
 
 fn copy(from: &[u64], to: &mut [u64])
@@ -287,10 +300,12 @@ fn copy(from: &[u64], to: &mut [u64])
     }
 }
 
-pub fn words(run: Run, count: usize, args: &[u64], table: &mut [u64], out: &mut [u8]) -> Run
+pub fn words(run: Run, count: usize, args: &[u64], table: &mut [u64]) -> Run
     requires { ⌜ (count ≤ tableWords) × ((length (now args) ≡ tableWords) × (length (now table) ≡ tableWords)) ⌝ }
     ensures { λ r. ⌜ r .used ≤ tableWords ⌝ }
 {
     copy(&args[..count], table);
-    run.lent(count).set(out)
+    say::text(b"set\n");
+    let space = run.space;
+    run.lent(space, count)
 }

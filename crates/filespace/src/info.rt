@@ -1,10 +1,11 @@
 // The File Space Info message: read out of bytes, and written into lent ones.
 ghost use mathlib.Core.Path.{_≡_};
 ghost use mathlib.Core.Bool.{true};
-ghost use Prim.Native.Nat.{_/_, _≤_};
+ghost use Prim.Native.Nat.{_≤_};
 ghost use lib.ListN.{length};
-ghost use Rattle.filespace.specs.Lent.{Kept, WriteFits, tableWords, messageBytes};
-use crate::report::Run;
+ghost use Rattle.filespace.specs.Lent.{WriteFits, lineBytes};
+use crate::TABLE_WORDS;
+use crate::report;
 use crate::say;
 use message::Answer;
 use message::Fields;
@@ -13,86 +14,86 @@ const TYPES: usize = 6;
 
 const ROOM_AT: usize = 18;
 
-const MOST_ROOM: u64 = 4096;
+const MOST_ROOM: usize = 4096;
 
 const MOST_BYTE: u64 = 255;
 
 const MOST_PAGE_END: u64 = 65535;
 
+// A line has two digits for each of so many bytes.
+const BYTES: usize = 50000;
+
 // The lent bytes before a message is written.
 const LENT: u8 = 0xaa;
 
-fn say_addresses(out: &mut [u8], from: usize, addresses: [u64; TYPES]) -> usize {
-    let mut at = from;
-    let mut i = 0;
-    while i < TYPES {
-        at = say::spaced(out, at, addresses[i]);
-        i += 1;
-    }
-    at
+fn say_addresses(addresses: &[u64; TYPES]) {
+    say::words(addresses);
 }
 
-fn say_fields(out: &mut [u8], at: usize, fields: Fields) -> usize {
-    let a = say::labelled(out, at, b"strategy ", fields.strategy as u64);
-    let b = say::labelled(out, a, b"; persist ", fields.persist as u64);
-    let c = say::labelled(out, b, b"; threshold ", fields.threshold);
-    let d = say::labelled(out, c, b"; page ", fields.page);
-    let e = say::labelled(out, d, b"; page-end ", fields.page_end as u64);
-    let f = say::labelled(out, e, b"; eoa ", fields.eoa);
-    let g = say::text(out, f, b"; small");
+fn say_fields(fields: Fields) {
+    say::labelled(b"strategy ", fields.strategy as u64);
+    say::labelled(b"; persist ", fields.persist as u64);
+    say::labelled(b"; threshold ", fields.threshold);
+    say::labelled(b"; page ", fields.page);
+    say::labelled(b"; page-end ", fields.page_end as u64);
+    say::labelled(b"; eoa ", fields.eoa);
+    say::text(b"; small");
     let small = fields.small;
-    let h = say_addresses(out, g, small);
-    let i = say::text(out, h, b"; large");
+    say_addresses(&small);
+    say::text(b"; large");
     let large = fields.large;
-    say_addresses(out, i, large)
+    say_addresses(&large);
+}
+
+fn say_refused(answer: Answer) {
+    say::labelled(b"refused ", message::number_of(answer));
 }
 
 // The fields, or the refusal.
-fn say_read(out: &mut [u8], at: usize, answer: Answer, fields: Fields) -> usize {
+fn say_read(answer: Answer, fields: Fields) {
     match answer {
-        Answer::Done => say_fields(out, at, fields),
-        Answer::Refused(_) => say::labelled(out, at, b"refused ", message::number_of(answer)),
+        Answer::Done => say_fields(fields),
+        Answer::Refused(_) => say_refused(answer),
     }
 }
 
-fn say_message(run: Run, bytes: &[u8], out: &mut [u8]) -> Run
-    ensures { λ r. ⌜ Kept run r ⌝ }
-{
+fn say_message(bytes: &[u8]) {
     let r = message::read(bytes);
     let answer = r.answer;
     let fields = r.fields;
-    let a = say_read(out, run.at, answer, fields);
+    say_read(answer, fields);
     let rest = message::rest(bytes);
-    let b = say::labelled(out, a, b"; ", rest.len() as u64);
-    run.said(say::text(out, b, b" bytes follow\n"))
+    say::labelled(b"; ", rest.len() as u64);
+    say::text(b" bytes follow\n");
 }
 
-pub fn read(run: Run, word: &[u8], bytes: &mut [u8], out: &mut [u8]) -> Run
-    requires { ⌜ length (now word) / 2 ≤ length (now bytes) ⌝ }
-    ensures { λ r. ⌜ Kept run r ⌝ }
+pub fn read(line: u64, word: &[u8])
+    requires { ⌜ length (now word) ≤ lineBytes ⌝ }
 {
+    let mut bytes = [0u8; BYTES];
     if script::bytes::is_hex(word) {
         let n = word.len() / 2;
-        script::bytes::unhex(word, bytes);
-        return say_message(run, &bytes[..n], out);
+        script::bytes::unhex(word, &mut bytes);
+        say_message(&bytes[..n]);
+        return;
     }
-    run.wrong(b"not hex", out)
+    report::wrong(line, b"not hex");
 }
 
-fn addresses(args: &[u64], from: usize) -> [u64; TYPES]
-    requires { ⌜ (from ≤ 12) × (length (now args) ≡ tableWords) ⌝ }
+fn addresses(args: &[u64; TABLE_WORDS], from: usize) -> [u64; TYPES]
+    requires { ⌜ from ≤ 12 ⌝ }
 {
-    let mut found = [0u64; TYPES];
-    let mut i = 0;
-    while i < TYPES {
-        found[i] = args[from + i];
-        i += 1;
-    }
-    found
+    [
+        args[from],
+        args[from + 1],
+        args[from + 2],
+        args[from + 3],
+        args[from + 4],
+        args[from + 5],
+    ]
 }
 
-fn fits(args: &[u64]) -> bool
-    requires { ⌜ length (now args) ≡ tableWords ⌝ }
+fn fits(args: &[u64; TABLE_WORDS]) -> bool
     ensures { λ r. ⌜ (r ≡ true → WriteFits (now (args .entry))) ⌝ }
 {
     if MOST_BYTE < args[0] {
@@ -104,11 +105,11 @@ fn fits(args: &[u64]) -> bool
     if MOST_PAGE_END < args[4] {
         return false;
     }
-    args[ROOM_AT] <= MOST_ROOM
+    args[ROOM_AT] <= MOST_ROOM as u64
 }
 
-fn fields_of(args: &[u64]) -> Fields
-    requires { ⌜ WriteFits (now args) × (length (now args) ≡ tableWords) ⌝ }
+fn fields_of(args: &[u64; TABLE_WORDS]) -> Fields
+    requires { ⌜ WriteFits (now args) ⌝ }
 {
     Fields {
         strategy: args[0] as u8,
@@ -122,46 +123,28 @@ fn fields_of(args: &[u64]) -> Fields
     }
 }
 
-fn fill(bytes: &mut [u8]) {
-    let mut i = 0;
-    while i < bytes.len() {
-        bytes[i] = LENT;
-        i += 1;
-    }
-}
-
-fn say_written(run: Run, answer: Answer, bytes: &[u8], out: &mut [u8]) -> Run
-    ensures { λ r. ⌜ Kept run r ⌝ }
-{
+fn say_written(answer: Answer, bytes: &[u8]) {
     match answer {
         Answer::Done => {
-            let a = say::text(out, run.at, b"wrote ");
-            let b = say::hex(out, a, bytes);
-            run.said(say::text(out, b, b"\n"))
+            say::text(b"wrote ");
+            say::hex(bytes);
         }
-        Answer::Refused(_) => {
-            let a = say::labelled(out, run.at, b"refused ", message::number_of(answer));
-            run.said(say::text(out, a, b"\n"))
-        }
+        Answer::Refused(_) => say_refused(answer),
     }
+    say::text(b"\n");
 }
 
-fn write_into(run: Run, fields: Fields, room: &mut [u8], out: &mut [u8]) -> Run
-    ensures { λ r. ⌜ Kept run r ⌝ }
-{
-    fill(room);
+fn write_into(fields: Fields, room: &mut [u8]) {
     let answer = message::write(fields, room);
-    say_written(run, answer, room, out)
+    say_written(answer, room);
 }
 
-pub fn write(run: Run, args: &[u64], bytes: &mut [u8], out: &mut [u8]) -> Run
-    requires { ⌜ (length (now args) ≡ tableWords) × (length (now bytes) ≡ messageBytes) ⌝ }
-    ensures { λ r. ⌜ Kept run r ⌝ }
-{
+pub fn write(line: u64, args: &[u64; TABLE_WORDS]) {
+    let mut bytes = [LENT; MOST_ROOM];
     if fits(args) {
         let room = args[ROOM_AT] as usize;
-        let fields = fields_of(args);
-        return write_into(run, fields, &mut bytes[..room], out);
+        write_into(fields_of(args), &mut bytes[..room]);
+        return;
     }
-    run.wrong(b"too many", out)
+    report::wrong(line, b"too many");
 }

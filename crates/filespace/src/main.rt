@@ -12,37 +12,17 @@ mod tables;
 ghost use mathlib.Core.Path.{_≡_};
 ghost use Prim.Native.Nat.{_≤_};
 ghost use lib.ListN.{length};
-ghost use Rattle.filespace.specs.Lent.{Lent, Carried, lineBytes, tableWords, messageBytes};
+ghost use Rattle.filespace.specs.Lent.{Carried, lineBytes, tableWords};
 use libc::STDIN_FILENO;
 use report::Run;
 use space::Space;
 
 const LINE: usize = 100000;
 
-const WORDS: usize = 6144;
-
-const BYTES: usize = 50000;
+// The words of the lent table, and the most that a call names.
+const TABLE_WORDS: usize = 6144;
 
 const NEWLINE: u8 = b'\n';
-
-// The words of the lent table, and those that a call names or lends.
-fn words() -> [u64; WORDS]
-    ensures { λ r. ⌜ length r ≡ tableWords ⌝ }
-{
-    [0; WORDS]
-}
-
-fn line_bytes() -> [u8; LINE]
-    ensures { λ r. ⌜ length r ≡ lineBytes ⌝ }
-{
-    [0; LINE]
-}
-
-fn message_bytes() -> [u8; BYTES]
-    ensures { λ r. ⌜ length r ≡ messageBytes ⌝ }
-{
-    [0; BYTES]
-}
 
 // Four zeros over a table of no words.
 fn at_first() -> Run
@@ -56,7 +36,6 @@ fn at_first() -> Run
             count: 0,
         },
         used: 0,
-        at: 0,
         line: 1,
         filled: 0,
         is_long: false,
@@ -65,58 +44,37 @@ fn at_first() -> Run
 }
 
 // A line up to its comment.
-fn answer_line(
-    run: Run,
-    line: &[u8],
-    table: &mut [u64],
-    args: &mut [u64],
-    bytes: &mut [u8],
-    out: &mut [u8],
-) -> Run
-    requires { ⌜ (Lent (now table) (now args) (now bytes) × (run .used ≤ tableWords)) × (length (now line) ≤ lineBytes) ⌝ }
+fn answer_line(run: Run, line: &[u8], table: &mut [u64; TABLE_WORDS]) -> Run
+    requires { ⌜ (run .used ≤ tableWords) × (length (now line) ≤ lineBytes) ⌝ }
     ensures { λ r. ⌜ r .used ≤ tableWords ⌝ }
 {
     let end = script::words::comment_at(line);
-    answer::answer(run, &line[..end], table, args, bytes, out)
+    answer::answer(run, &line[..end], table)
 }
 
 // The line is whole: it is answered, and the next one starts.
-fn end_line(
-    run: Run,
-    line: &[u8],
-    table: &mut [u64],
-    args: &mut [u64],
-    bytes: &mut [u8],
-    out: &mut [u8],
-) -> Run
-    requires { ⌜ Lent (now table) (now args) (now bytes) × ((length (now line) ≡ lineBytes) × Carried run) ⌝ }
+fn end_line(run: Run, line: &[u8], table: &mut [u64; TABLE_WORDS]) -> Run
+    requires { ⌜ (length (now line) ≡ lineBytes) × Carried run ⌝ }
     ensures { λ r. ⌜ Carried r ⌝ }
 {
     if run.is_long {
-        return run.wrong(b"too long", out).next_line();
+        report::wrong(run.line, b"too long");
+        return run.next_line();
     }
     let filled = run.filled;
-    answer_line(run, &line[..filled], table, args, bytes, out).next_line()
+    answer_line(run, &line[..filled], table).next_line()
 }
 
 // One byte more of the line. What is longer than a line may be is not kept.
-fn feed(
-    run: Run,
-    byte: u8,
-    line: &mut [u8],
-    table: &mut [u64],
-    args: &mut [u64],
-    bytes: &mut [u8],
-    out: &mut [u8],
-) -> Run
-    requires { ⌜ Lent (now table) (now args) (now bytes) × ((length (now line) ≡ lineBytes) × Carried run) ⌝ }
+fn feed(run: Run, byte: u8, line: &mut [u8; LINE], table: &mut [u64; TABLE_WORDS]) -> Run
+    requires { ⌜ Carried run ⌝ }
     ensures { λ r. ⌜ Carried r ⌝ }
 {
     if byte == NEWLINE {
-        return end_line(run, line, table, args, bytes, out);
+        return end_line(run, line, table);
     }
     let filled = run.filled;
-    if filled < line.len() {
+    if filled < LINE {
         line[filled] = byte;
         return run.longer();
     }
@@ -124,82 +82,45 @@ fn feed(
 }
 
 // The bytes that were read, one by one.
-fn feed_all(
-    run: Run,
-    text: &[u8],
-    line: &mut [u8],
-    table: &mut [u64],
-    args: &mut [u64],
-    bytes: &mut [u8],
-    out: &mut [u8],
-) -> Run
-    requires { ⌜ Lent (now table) (now args) (now bytes) × ((length (now line) ≡ lineBytes) × Carried run) ⌝ }
+fn feed_all(run: Run, text: &[u8], line: &mut [u8; LINE], table: &mut [u64; TABLE_WORDS]) -> Run
+    requires { ⌜ Carried run ⌝ }
     ensures { λ r. ⌜ Carried r ⌝ }
 {
     let mut next = run;
     let mut i = 0;
     while i < text.len() {
-        next = feed(next, text[i], line, table, args, bytes, out);
+        next = feed(next, text[i], line, table);
         i += 1;
     }
     next
 }
 
-// The input is over: a last line without its end is a line too.
-fn finish(
-    run: Run,
-    line: &[u8],
-    table: &mut [u64],
-    args: &mut [u64],
-    bytes: &mut [u8],
-    out: &mut [u8],
-) -> Run
-    requires { ⌜ Lent (now table) (now args) (now bytes) × ((length (now line) ≡ lineBytes) × Carried run) ⌝ }
-    ensures { λ r. ⌜ Carried r ⌝ }
-{
-    let last = end_line(run, line, table, args, bytes, out);
-    last.flushed(out).over()
-}
-
-// Reads once, and answers the lines that are whole.
-fn turn(
-    run: Run,
-    line: &mut [u8],
-    table: &mut [u64],
-    args: &mut [u64],
-    bytes: &mut [u8],
-    out: &mut [u8],
-) -> Run
-    requires { ⌜ Lent (now table) (now args) (now bytes) × ((length (now line) ≡ lineBytes) × Carried run) ⌝ }
+// Reads once, and answers the lines that are whole. Where the input is over, a last line without its end is a line too.
+fn turn(run: Run, line: &mut [u8; LINE], table: &mut [u64; TABLE_WORDS]) -> Run
+    requires { ⌜ Carried run ⌝ }
     ensures { λ r. ⌜ Carried r ⌝ }
 {
     let mut chunk = io::large_buffer();
     let got = libc::read(STDIN_FILENO, &mut chunk);
     if got <= 0 {
-        return finish(run, line, table, args, bytes, out);
+        return end_line(run, line, table).over();
     }
     let n = io::count(got, &chunk);
-    let next = feed_all(run, &chunk[..n], line, table, args, bytes, out);
-    next.flushed(out)
+    feed_all(run, &chunk[..n], line, table)
 }
 
 // A proved loop has to end, and nothing says that the input does. So the loop counts its turns down, from a number that no run uses up.
-fn turns(line: &mut [u8], table: &mut [u64], args: &mut [u64], bytes: &mut [u8], out: &mut [u8])
-    requires { ⌜ Lent (now table) (now args) (now bytes) × (length (now line) ≡ lineBytes) ⌝ }
-{
+fn turns(line: &mut [u8; LINE], table: &mut [u64; TABLE_WORDS]) {
     let mut run = at_first();
     let mut left = u64::MAX;
     while left > 0 && !run.is_over {
-        run = turn(run, line, table, args, bytes, out);
+        run = turn(run, line, table);
         left -= 1;
     }
 }
 
 fn main() {
-    let mut line = line_bytes();
-    let mut table = words();
-    let mut args = words();
-    let mut bytes = message_bytes();
-    let mut out = io::large_buffer();
-    turns(&mut line, &mut table, &mut args, &mut bytes, &mut out);
+    let mut line = [0u8; LINE];
+    let mut table = [0u64; TABLE_WORDS];
+    turns(&mut line, &mut table);
 }

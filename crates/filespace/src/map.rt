@@ -1,9 +1,8 @@
 // The file as a picture: a row for each page, and marks for what its bytes belong to.
-ghost use mathlib.Core.Path.{_≡_};
 ghost use Prim.Native.Nat.{_+_, _*_, _^_, _≤_, _<_};
 ghost use lib.ListN.{length};
 ghost use Rattle.pieces.specs.Words.{entryWords};
-ghost use Rattle.filespace.specs.Lent.{Kept, tableWords, Rows};
+ghost use Rattle.filespace.specs.Lent.{Rows};
 use crate::report::Run;
 use crate::say;
 use crate::tables::entries_of;
@@ -53,87 +52,63 @@ fn mark_at(table: &[u64], n: usize, address: u64) -> u8
 }
 
 // The marks of a page, one for every `step` bytes.
-fn say_marks(
-    out: &mut [u8],
-    from: usize,
-    table: &[u64],
-    n: usize,
-    start: u64,
-    stop: u64,
-    step: u64,
-) -> usize
+fn say_marks(table: &[u64], n: usize, start: u64, stop: u64, step: u64)
     requires { ⌜ (n * entryWords ≤ length (now table)) × ((0 < step) × (stop + step < 2 ^ 64)) ⌝ }
 {
-    let mut at = from;
     let mut address = start;
     while address < stop {
-        at = say::byte(out, at, mark_at(table, n, address));
+        let mark = [mark_at(table, n, address); 1];
+        say::text(&mark);
         address += step;
     }
-    at
 }
 
-fn say_row(
-    out: &mut [u8],
-    at: usize,
-    table: &[u64],
-    n: usize,
-    row: u64,
-    start: u64,
-    page: u64,
-) -> usize
+fn say_row(table: &[u64], n: usize, row: u64, start: u64, page: u64)
     requires { ⌜ (n * entryWords ≤ length (now table)) × Rows page start ⌝ }
 {
-    let a = say::text(out, at, b"page ");
-    let b = say::column(out, a, row, COLUMN);
-    let c = say::text(out, b, b" |");
-    let step = (page + MARKS - 1) / MARKS;
-    let d = say_marks(out, c, table, n, start, start + page, step);
-    say::text(out, d, b"|\n")
+    say::text(b"page ");
+    say::column(row, COLUMN);
+    say::text(b" |");
+    say_marks(table, n, start, start + page, (page + MARKS - 1) / MARKS);
+    say::text(b"|\n");
 }
 
 // The rows, and how many pages have none.
-fn say_rows(out: &mut [u8], from: usize, table: &[u64], n: usize, page: u64, end: u64) -> usize
+fn say_rows(table: &[u64], n: usize, page: u64, end: u64)
     requires { ⌜ (n * entryWords ≤ length (now table)) × Rows page end ⌝ }
 {
-    let mut at = from;
     let mut start: u64 = 0;
     let mut row: u64 = 0;
     while row < ROWS && start < end {
-        at = say_row(out, at, table, n, row, start, page);
+        say_row(table, n, row, start, page);
         start += page;
         row += 1;
     }
-    say_more(out, at, page, start, end)
+    say_more(page, start, end);
 }
 
-fn say_more(out: &mut [u8], at: usize, page: u64, start: u64, end: u64) -> usize
+fn say_more(page: u64, start: u64, end: u64)
     requires { ⌜ 0 < page ⌝ }
 {
     if start < end {
-        let a = say::labelled(out, at, b"and ", (end - start) / page);
-        return say::text(out, a, b" more pages\n");
+        say::labelled(b"and ", (end - start) / page);
+        say::text(b" more pages\n");
     }
-    at
 }
 
-fn say_legend(out: &mut [u8], at: usize, page: u64, end: u64) -> usize
+fn say_legend(page: u64, end: u64)
     requires { ⌜ Rows page end ⌝ }
 {
-    let a = say::labelled(out, at, b"pages of ", page);
-    let b = say::labelled(out, a, b" bytes, end ", end);
-    let c = say::labelled(out, b, b"; a mark for every ", (page + MARKS - 1) / MARKS);
-    let d = say::text(
-        out,
-        c,
-        b" bytes\nlive: M small metadata, R small raw, L large; ",
+    say::labelled(b"pages of ", page);
+    say::labelled(b" bytes, end ", end);
+    say::labelled(b"; a mark for every ", (page + MARKS - 1) / MARKS);
+    say::text(
+        b" bytes\nlive: M small metadata, R small raw, L large; free: m small metadata, r small raw, . large\n",
     );
-    say::text(out, d, b"free: m small metadata, r small raw, . large\n")
 }
 
-pub fn map(run: Run, table: &[u64], out: &mut [u8]) -> Run
-    requires { ⌜ (run .used ≤ tableWords) × (length (now table) ≡ tableWords) ⌝ }
-    ensures { λ r. ⌜ Kept run r ⌝ }
+pub fn map(run: Run, table: &[u64])
+    requires { ⌜ run .used ≤ length (now table) ⌝ }
 {
     let space = run.space;
     let used = run.used;
@@ -144,13 +119,9 @@ pub fn map(run: Run, table: &[u64], out: &mut [u8]) -> Run
         space.count,
         &table[..used],
     ) {
-        return run.said(say::text(
-            out,
-            run.at,
-            b"no map: state and table are not sound together\n",
-        ));
+        say::text(b"no map: state and table are not sound together\n");
+        return;
     }
-    let n = entries_of(space.count, used);
-    let a = say_rows(out, run.at, table, n, space.page, space.end);
-    run.said(say_legend(out, a, space.page, space.end))
+    say_rows(table, entries_of(space.count, used), space.page, space.end);
+    say_legend(space.page, space.end);
 }

@@ -9,8 +9,6 @@ pub struct Run {
     // The state that the next call gets, and how many words the lent table has.
     pub space: Space,
     pub used: usize,
-    // How much of the buffer of what is said is filled.
-    pub at: usize,
     // The number of the line, how many of its bytes are there, and whether it has more than a line may have.
     pub line: u64,
     pub filled: usize,
@@ -51,88 +49,45 @@ impl Run {
         self
     }
 
-    pub fn said(mut self, at: usize) -> Run
-        ensures { λ r. ⌜ Kept self r ⌝ }
-    {
-        self.at = at;
-        self
-    }
-
-    pub fn flushed(self, out: &[u8]) -> Run
-        ensures { λ r. ⌜ Kept self r ⌝ }
-    {
-        let at = say::flush(out, self.at);
-        self.said(at)
-    }
-
-    // The lent table has so many words.
-    pub fn lent(mut self, used: usize) -> Run
+    // The lent table has so many words, and the next call gets this state.
+    pub fn lent(mut self, space: Space, used: usize) -> Run
         ensures { λ r. ⌜ (r .used ≡ used) × (r .filled ≡ self .filled) ⌝ }
     {
+        self.space = space;
         self.used = used;
         self
     }
+}
 
-    pub fn holding(mut self, space: Space) -> Run
-        ensures { λ r. ⌜ Kept self r ⌝ }
-    {
-        self.space = space;
-        self
-    }
+pub fn wrong(line: u64, what: &[u8]) {
+    say::labelled(b"line ", line);
+    say::text(b": ");
+    say::text(what);
+    say::text(b"\n");
+}
 
-    pub fn wrong(self, what: &[u8], out: &mut [u8]) -> Run
-        ensures { λ r. ⌜ Kept self r ⌝ }
-    {
-        let a = say::labelled(out, self.at, b"line ", self.line);
-        let b = say::text(out, a, b": ");
-        let c = say::text(out, b, what);
-        self.said(say::text(out, c, b"\n"))
-    }
+// How the answer of a call ends: with the state that it handed back.
+fn ended(space: Space) {
+    say::labelled(b"; end ", space.end);
+    say::labelled(b"; ", space.count);
+    say::text(b" entries\n");
+}
 
-    pub fn set(self, out: &mut [u8]) -> Run
-        ensures { λ r. ⌜ Kept self r ⌝ }
-    {
-        self.said(say::text(out, self.at, b"set\n"))
-    }
+pub fn placed(space: Space, address: u64) {
+    say::labelled(b"at ", address);
+    ended(space);
+}
 
-    // The state that a call handed back.
-    fn ended(self, space: Space, out: &mut [u8]) -> Run
-        ensures { λ r. ⌜ Kept self r ⌝ }
-    {
-        let a = say::labelled(out, self.at, b"; end ", space.end);
-        let b = say::labelled(out, a, b"; ", space.count);
-        let c = say::text(out, b, b" entries\n");
-        self.holding(space).said(c)
-    }
+// Done at 0, else refused.
+pub fn told(space: Space, number: u64) {
+    say_told(number);
+    ended(space);
+}
 
-    pub fn done(self, space: Space, out: &mut [u8]) -> Run
-        ensures { λ r. ⌜ Kept self r ⌝ }
-    {
-        let at = say::text(out, self.at, b"done");
-        self.said(at).ended(space, out)
+pub fn say_told(number: u64) {
+    if number == 0 {
+        say::text(b"done");
+        return;
     }
-
-    pub fn placed(self, space: Space, address: u64, out: &mut [u8]) -> Run
-        ensures { λ r. ⌜ Kept self r ⌝ }
-    {
-        let at = say::labelled(out, self.at, b"at ", address);
-        self.said(at).ended(space, out)
-    }
-
-    pub fn refused(self, space: Space, number: u64, out: &mut [u8]) -> Run
-        ensures { λ r. ⌜ Kept self r ⌝ }
-    {
-        let at = say::labelled(out, self.at, b"refused ", number);
-        self.said(at).ended(space, out)
-    }
-
-    // Done at 0, else refused.
-    pub fn told(self, space: Space, number: u64, out: &mut [u8]) -> Run
-        ensures { λ r. ⌜ Kept self r ⌝ }
-    {
-        if number == 0 {
-            return self.done(space, out);
-        }
-        self.refused(space, number, out)
-    }
+    say::labelled(b"refused ", number);
 }

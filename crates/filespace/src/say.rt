@@ -1,86 +1,68 @@
-// What is said goes to a lent buffer, and from there to standard output. A place in the buffer is passed on from call to call.
+// Standard output. What a write answers is not looked at.
 use libc::STDOUT_FILENO;
 
 const DIGITS: usize = 20;
 
-// Writes what the buffer holds: the next place is its front.
-pub fn flush(out: &[u8], at: usize) -> usize {
-    if at <= out.len() {
-        io::write_all(STDOUT_FILENO, &out[..at]);
-    }
-    0
-}
-
-// The buffer is written first where it has no room for the text.
-pub fn text(out: &mut [u8], at: usize, text: &[u8]) -> usize {
-    if at <= out.len() {
-        if text.len() <= out.len() - at {
-            return script::text::lay(out, at, text);
-        }
-    }
-    flush(out, at);
-    if text.len() <= out.len() {
-        return script::text::lay(out, 0, text);
-    }
+pub fn text(text: &[u8]) {
     io::write_all(STDOUT_FILENO, text);
-    0
 }
 
-pub fn byte(out: &mut [u8], at: usize, byte: u8) -> usize {
-    let one = [byte; 1];
-    text(out, at, &one)
-}
-
-pub fn number(out: &mut [u8], at: usize, n: u64) -> usize {
-    let mut digits = [0u8; DIGITS];
-    let k = io::decimal(n, &mut digits);
-    text(out, at, &digits[..k])
+pub fn number(n: u64) {
+    io::print_decimal(STDOUT_FILENO, n);
 }
 
 // A text and a number.
-pub fn labelled(out: &mut [u8], at: usize, label: &[u8], n: u64) -> usize {
-    let next = text(out, at, label);
-    number(out, next, n)
-}
-
-// Blanks, up to 20 of them.
-fn blanks(out: &mut [u8], at: usize, n: usize) -> usize {
-    let spaces = [b' '; DIGITS];
-    if n <= DIGITS {
-        return text(out, at, &spaces[..n]);
-    }
-    at
-}
-
-// A number in a column of a width.
-pub fn column(out: &mut [u8], at: usize, n: u64, width: usize) -> usize {
-    let mut digits = [0u8; DIGITS];
-    let k = io::decimal(n, &mut digits);
-    if k < width {
-        let next = blanks(out, at, width - k);
-        return text(out, next, &digits[..k]);
-    }
-    text(out, at, &digits[..k])
+pub fn labelled(label: &[u8], n: u64) {
+    text(label);
+    number(n);
 }
 
 // A number behind a blank.
-pub fn spaced(out: &mut [u8], at: usize, n: u64) -> usize {
-    labelled(out, at, b" ", n)
+pub fn spaced(n: u64) {
+    labelled(b" ", n);
+}
+
+// The blanks before `used` bytes in a column, up to 20 of them.
+fn blanks(width: usize, used: usize) {
+    let spaces = [b' '; DIGITS];
+    if used < width {
+        if width <= DIGITS {
+            text(&spaces[..width - used]);
+        }
+    }
+}
+
+// A number in a column of a width.
+pub fn column(n: u64, width: usize) {
+    let mut digits = [0u8; DIGITS];
+    let k = io::decimal(n, &mut digits);
+    blanks(width, k);
+    text(&digits[..k]);
 }
 
 // A byte in hexadecimal.
-fn two_digits(out: &mut [u8], at: usize, value: u8) -> usize {
-    let next = byte(out, at, script::bytes::digit(value / 16));
-    byte(out, next, script::bytes::digit(value % 16))
+fn two_digits(value: u8) {
+    let digits = [
+        script::bytes::digit(value / 16),
+        script::bytes::digit(value % 16),
+    ];
+    text(&digits);
 }
 
 // Bytes in hexadecimal.
-pub fn hex(out: &mut [u8], at: usize, bytes: &[u8]) -> usize {
-    let mut next = at;
+pub fn hex(bytes: &[u8]) {
     let mut i = 0;
     while i < bytes.len() {
-        next = two_digits(out, next, bytes[i]);
+        two_digits(bytes[i]);
         i += 1;
     }
-    next
+}
+
+// The words of a list, each behind a blank.
+pub fn words(words: &[u64]) {
+    let mut i = 0;
+    while i < words.len() {
+        spaced(words[i]);
+        i += 1;
+    }
 }

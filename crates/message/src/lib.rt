@@ -1,8 +1,8 @@
 // The File Space Info message, version 1: read out of the part of a header block that starts at the message, written into one, and the part
 // of the block that follows it. No public call has a `requires`: what breaks a rule is refused.
 pub mod fields;
+mod legal;
 mod parts;
-mod rules;
 
 pub use fields::Answer;
 pub use fields::Fields;
@@ -17,9 +17,9 @@ use fields::VERSION_AT;
 use fields::follows_at;
 use fields::length_of;
 use fields::refused;
+use legal::is_legal;
 use parts::fields_of;
 use parts::put_fields;
-use rules::is_legal;
 
 // The fields of the message that the bytes start with, or why there is none.
 pub fn read(bytes: &[u8]) -> Read

@@ -86,8 +86,8 @@ fn open_both(t: Tally) -> Both {
     let two = scene::open_default();
     let first = one.answer;
     let second = two.answer;
-    let t = t.answer(b"the crane's file is opened", Answer::Done, first);
-    let tally = t.answer(b"the server's file is opened", Answer::Done, second);
+    let t = t.answer(b"the crane's file is opened", 0, Answer::Done, first);
+    let tally = t.answer(b"the server's file is opened", 0, Answer::Done, second);
     let crane = one.scene;
     let server = two.scene;
     Both {
@@ -236,9 +236,10 @@ fn compare(both: Both) -> Both {
     say_holding(b"the server", server);
     say_words(crane, server);
     let old = both.tally;
-    let tally = case::unchanged(
+    let tally = case::same(
         old,
         b"the crane and the server have the same words and the same state",
+        0,
         crane,
         server,
     );

@@ -5,6 +5,7 @@ use show::answer::Answer;
 use show::case;
 use show::claim::Tally;
 use show::claim::say_verdict;
+use show::document;
 use show::scene;
 use show::scene::Call;
 use show::scene::Scene;
@@ -24,24 +25,6 @@ const TABLE_WORDS: usize = 36;
 struct Run {
     scene: Scene,
     tally: Tally,
-}
-
-// The first four entries of document 01's table after step 5: its table after step 12.
-fn first_four() -> [u64; 96] {
-    let w = scene::blank();
-    let w = scene::with_entry(w, 0, 0, 96, 1);
-    let w = scene::with_entry(w, 1, 96, 416, 1);
-    let w = scene::with_entry(w, 2, 512, 100, 2);
-    scene::with_entry(w, 3, 612, 412, 5)
-}
-
-// Document 01's table after step 5.
-fn all_eight() -> [u64; 96] {
-    let w = first_four();
-    let w = scene::with_entry(w, 4, 1024, 700, 3);
-    let w = scene::with_entry(w, 5, 1724, 324, 6);
-    let w = scene::with_entry(w, 6, 2048, 10, 1);
-    scene::with_entry(w, 7, 2058, 502, 4)
 }
 
 fn say_answer_and_end(a: Answer, end: u64) {
@@ -104,7 +87,7 @@ fn step(run: Run, number: u64, call: Call, expected: Answer, end: u64) -> Run {
 fn refuses(run: Run, claim: &[u8], call: Call, number: u64) -> Run {
     let scene = run.scene;
     let old = run.tally;
-    let tally = case::refuses(old, claim, scene, call, number);
+    let tally = case::refuses(old, claim, 0, scene, call, number);
     Run { scene, tally }
 }
 
@@ -113,7 +96,7 @@ fn holds(run: Run, claim: &[u8], expected: [u64; 96]) -> Run {
     let scene = run.scene;
     let found = scene.words;
     let old = run.tally;
-    let tally = old.words(claim, &expected, &found);
+    let tally = old.words(claim, 0, &expected, &found);
     Run { scene, tally }
 }
 
@@ -123,6 +106,7 @@ fn to_step_five(tally: Tally) -> Run {
     let scene = opened.scene;
     let tally = tally.answer(
         b"opening with P = 512, M = 5120, C = 12 is done",
+        0,
         Answer::Done,
         said,
     );
@@ -135,7 +119,7 @@ fn to_step_five(tally: Tally) -> Run {
     holds(
         run,
         b"after step 5 every word is document 01's",
-        all_eight(),
+        document::after_step_five(),
     )
 }
 
@@ -162,7 +146,7 @@ fn in_order(run: Run) -> Run {
     holds(
         run,
         b"after step 12 every word is document 01's",
-        first_four(),
+        document::after_step_twelve(),
     )
 }
 
@@ -173,7 +157,7 @@ fn exchanged(run: Run) -> Run {
     holds(
         run,
         b"steps 11 and 12 exchanged, by way of E = 2560, end with the same words",
-        first_four(),
+        document::after_step_twelve(),
     )
 }
 
@@ -190,9 +174,10 @@ fn main() {
     let other_scene = other.scene;
     let other_state = other_scene.space;
     let all = other.tally;
-    let all = all.number(b"both orders end with one E", state.end, other_state.end);
+    let all = all.number(b"both orders end with one E", 0, state.end, other_state.end);
     let all = all.number(
         b"both orders end with one count of entries",
+        0,
         state.count,
         other_state.count,
     );

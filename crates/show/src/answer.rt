@@ -3,6 +3,7 @@ ghost use mathlib.Core.Path.{_≡_};
 ghost use Rattle.space.specs.Answers.{openNumber, allocateNumber, addressOf, releaseNumber, extendNumber, shortenNumber, listNumber, countOf};
 ghost use Rattle.show.specs.Answers.{numberIn, addressIn, countIn, sameb};
 use crate::text::say;
+use crate::text::say_nth;
 use crate::text::say_number;
 use space::answers::AllocateAnswer;
 use space::answers::ExtendAnswer;
@@ -145,30 +146,30 @@ pub fn same_answer(a: Answer, other: Answer) -> bool
     }
 }
 
-// Whether a call was refused, with any number.
-pub fn is_refusal(a: Answer) -> bool {
-    match a {
-        Answer::At(_) => false,
-        Answer::Sections(_) => false,
-        Answer::Done => false,
-        Answer::Refused(_) => true,
-    }
+// `at` or `refused`, and a number.
+fn say_with(k: u64, n: u64) {
+    say_nth(b"at \nrefused ", k);
+    say_number(n);
+}
+
+fn say_sections(n: u64) {
+    say_number(n);
+    say(b" sections");
 }
 
 pub fn say_answer(a: Answer) {
     match a {
-        Answer::At(n) => {
-            say(b"at ");
-            say_number(n);
-        }
-        Answer::Sections(n) => {
-            say_number(n);
-            say(b" sections");
-        }
+        Answer::At(n) => say_with(0, n),
+        Answer::Sections(n) => say_sections(n),
         Answer::Done => say(b"done"),
-        Answer::Refused(n) => {
-            say(b"refused ");
-            say_number(n);
-        }
+        Answer::Refused(n) => say_with(1, n),
     }
+}
+
+// What was expected, what was found, and the line's end.
+pub fn say_answers(expected: Answer, found: Answer) {
+    say_answer(expected);
+    say(b", found ");
+    say_answer(found);
+    say(b"\n");
 }

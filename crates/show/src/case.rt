@@ -7,7 +7,6 @@ use crate::scene;
 use crate::scene::Call;
 use crate::scene::Scene;
 use crate::text::say;
-use crate::text::say_line;
 use crate::text::say_number;
 use crate::words;
 
@@ -17,10 +16,18 @@ fn say_answer_and_end(a: Answer, end: u64) {
     say_number(end);
 }
 
+fn say_answers_and_ends(expected: Answer, end: u64, found: Answer, found_end: u64) {
+    say_answer_and_end(expected, end);
+    say(b", found ");
+    say_answer_and_end(found, found_end);
+    say(b"\n");
+}
+
 // That the call has this answer, and leaves the file with this end.
 pub fn answers(
     t: Tally,
-    claim: &[u8],
+    text: &[u8],
+    k: u64,
     before: Scene,
     call: Call,
     expected: Answer,
@@ -30,63 +37,40 @@ pub fn answers(
     let found = asked.answer;
     let left = asked.scene;
     let state = left.space;
-    if answer::same_answer(expected, found) {
-        if state.end == end {
-            claim::say_ok(claim);
-            return t.held();
-        }
+    let held = answer::same_answer(expected, found) && state.end == end;
+    claim::say_claim(held, text, k);
+    if !held {
+        say_answers_and_ends(expected, end, found, state.end);
     }
-    claim::say_fail(claim);
-    say_answer_and_end(expected, end);
-    say(b", found ");
-    say_answer_and_end(found, state.end);
-    say(b"\n");
-    t.failed()
+    t.count(held)
 }
 
-fn say_other_answer(claim: &[u8], number: u64, found: Answer) {
-    claim::say_fail(claim);
-    say(b"refused ");
-    say_number(number);
-    say(b", found ");
-    answer::say_answer(found);
-    say(b"\n");
-}
-
-fn say_changed_word(claim: &[u8], i: usize) {
-    claim::say_fail(claim);
-    say(b"every word as it came, found another at word ");
-    say_number(i as u64);
-    say(b"\n");
+// What differs between two scenes.
+fn say_difference(expected: Scene, found: Scene) {
+    let old = expected.words;
+    let new = found.words;
+    say(b"that state and every such word, found others; ");
+    words::say_difference(&old, &new);
 }
 
 // That two scenes have the same words and the same state.
-pub fn unchanged(t: Tally, claim: &[u8], before: Scene, left: Scene) -> Tally {
-    let old = before.words;
-    let new = left.words;
-    if !words::same_words(&old, &new) {
-        say_changed_word(claim, words::agreeing(&old, &new));
-        return t.failed();
+pub fn same(t: Tally, text: &[u8], k: u64, expected: Scene, found: Scene) -> Tally {
+    let held = scene::same_scene(expected, found);
+    claim::say_claim(held, text, k);
+    if !held {
+        say_difference(expected, found);
     }
-    let given = before.space;
-    let returned = left.space;
-    if !scene::same_state(given, returned) {
-        claim::say_fail(claim);
-        say_line(b"the state as it came, found another");
-        return t.failed();
-    }
-    claim::say_ok(claim);
-    t.held()
+    t.count(held)
 }
 
 // That the call is refused with this number, and leaves every word and the state as they came.
-pub fn refuses(t: Tally, claim: &[u8], before: Scene, call: Call, number: u64) -> Tally {
+pub fn refuses(t: Tally, text: &[u8], k: u64, before: Scene, call: Call, number: u64) -> Tally {
     let asked = scene::ask(before, call);
     let found = asked.answer;
-    if !answer::same_answer(Answer::Refused(number), found) {
-        say_other_answer(claim, number, found);
-        return t.failed();
+    let expected = Answer::Refused(number);
+    if !answer::same_answer(expected, found) {
+        return t.answer(text, k, expected, found);
     }
     let left = asked.scene;
-    unchanged(t, claim, before, left)
+    same(t, text, k, before, left)
 }

@@ -1,9 +1,10 @@
-// Claims, each a sentence. One that holds prints `ok   CLAIM`; another prints `FAIL CLAIM: expected X, found Y`. They are counted.
+// Claims, each a sentence: a line of a text that has the claims of a group, named by its number there. One that holds prints `ok   CLAIM`;
+// another prints `FAIL CLAIM: expected X, found Y`. They are counted.
 ghost use mathlib.Core.Path.{_≡_};
 use crate::answer;
 use crate::answer::Answer;
 use crate::text::say;
-use crate::text::say_line;
+use crate::text::say_nth;
 use crate::text::say_number;
 use crate::words;
 
@@ -29,15 +30,22 @@ pub fn say_verdict(held: bool) {
     say(b"FAIL ");
 }
 
-pub fn say_ok(claim: &[u8]) {
-    say_verdict(true);
-    say_line(claim);
+// Claim k of a text: the whole line where it holds, else up to what was expected.
+pub fn say_claim(held: bool, text: &[u8], k: u64) {
+    say_verdict(held);
+    say_nth(text, k);
+    if held {
+        say(b"\n");
+        return;
+    }
+    say(b": expected ");
 }
 
-pub fn say_fail(claim: &[u8]) {
-    say_verdict(false);
-    say(claim);
-    say(b": expected ");
+fn say_numbers(expected: u64, found: u64) {
+    say_number(expected);
+    say(b", found ");
+    say_number(found);
+    say(b"\n");
 }
 
 impl Tally {
@@ -71,42 +79,34 @@ impl Tally {
         self.failed()
     }
 
-    pub fn number(self, claim: &[u8], expected: u64, found: u64) -> Tally {
-        if expected == found {
-            say_ok(claim);
-            return self.held();
+    // That a number is this one.
+    pub fn number(self, text: &[u8], k: u64, expected: u64, found: u64) -> Tally {
+        let held = expected == found;
+        say_claim(held, text, k);
+        if !held {
+            say_numbers(expected, found);
         }
-        say_fail(claim);
-        say_number(expected);
-        say(b", found ");
-        say_number(found);
-        say(b"\n");
-        self.failed()
+        self.count(held)
     }
 
-    pub fn answer(self, claim: &[u8], expected: Answer, found: Answer) -> Tally {
-        if answer::same_answer(expected, found) {
-            say_ok(claim);
-            return self.held();
+    // That an answer is this one.
+    pub fn answer(self, text: &[u8], k: u64, expected: Answer, found: Answer) -> Tally {
+        let held = answer::same_answer(expected, found);
+        say_claim(held, text, k);
+        if !held {
+            answer::say_answers(expected, found);
         }
-        say_fail(claim);
-        answer::say_answer(expected);
-        say(b", found ");
-        answer::say_answer(found);
-        say(b"\n");
-        self.failed()
+        self.count(held)
     }
 
-    pub fn words(self, claim: &[u8], expected: &[u64], found: &[u64]) -> Tally {
-        if words::same_words(expected, found) {
-            say_ok(claim);
-            return self.held();
+    // That the words are these.
+    pub fn words(self, text: &[u8], k: u64, expected: &[u64], found: &[u64]) -> Tally {
+        let held = words::same_words(expected, found);
+        say_claim(held, text, k);
+        if !held {
+            words::say_difference(expected, found);
         }
-        say_fail(claim);
-        say(b"the words as they stood, found a difference at word ");
-        say_number(words::agreeing(expected, found) as u64);
-        say(b"\n");
-        self.failed()
+        self.count(held)
     }
 
     // The last line of a program.

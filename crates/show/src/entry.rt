@@ -3,20 +3,28 @@ ghost use Prim.Native.Nat.{_+_, _*_, _≤_};
 ghost use lib.ListN.{length};
 ghost use Rattle.pieces.specs.Words.{entryWords};
 use crate::text::say;
-use crate::text::say_line;
+use crate::text::say_nth;
 use crate::text::say_number;
 use pieces::ENTRY_WORDS;
 
-fn say_kind(kind: u64) {
-    match kind {
-        1 => say_line(b"live small metadata"),
-        2 => say_line(b"live small raw"),
-        3 => say_line(b"live large"),
-        4 => say_line(b"free small metadata"),
-        5 => say_line(b"free small raw"),
-        6 => say_line(b"free large"),
-        _ => say_line(b"no kind"),
+// 0 is no kind, and document 01 has six.
+const KINDS: u64 = 7;
+
+// The line of a kind, or of no kind.
+fn named(kind: u64) -> u64 {
+    if kind < KINDS {
+        return kind;
     }
+    0
+}
+
+fn say_kind(kind: u64) {
+    say_nth(
+        b"no kind\n\
+          live small metadata\nlive small raw\nlive large\n\
+          free small metadata\nfree small raw\nfree large",
+        named(kind),
+    );
 }
 
 fn say_entry(table: &[u64], i: usize)
@@ -29,6 +37,7 @@ fn say_entry(table: &[u64], i: usize)
     say_number(piece.size);
     say(b" ");
     say_kind(pieces::kind_at(table, i));
+    say(b"\n");
 }
 
 // How many of n entries a slice of words has.

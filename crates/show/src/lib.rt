@@ -3,6 +3,7 @@
 pub mod answer;
 pub mod case;
 pub mod claim;
+pub mod document;
 pub mod entry;
 pub mod scene;
 pub mod text;

@@ -8,7 +8,9 @@ use crate::answer;
 use crate::answer::Answer;
 use crate::entry;
 use crate::text::say;
+use crate::text::say_nth;
 use crate::text::say_number;
+use crate::words;
 use pieces::ENTRY_WORDS;
 use space::Space;
 
@@ -188,6 +190,18 @@ pub fn same_state(a: Space, other: Space) -> bool
     a.count == other.count
 }
 
+// Whether two scenes have the same words and the same state.
+pub fn same_scene(a: Scene, other: Scene) -> bool {
+    let old = a.words;
+    let new = other.words;
+    if !words::same_words(&old, &new) {
+        return false;
+    }
+    let given = a.space;
+    let returned = other.space;
+    same_state(given, returned)
+}
+
 // The table, an entry to a line.
 pub fn say_entries(scene: Scene) {
     let words = scene.words;
@@ -195,33 +209,38 @@ pub fn say_entries(scene: Scene) {
     entry::say_table(&words, state.count);
 }
 
-fn say_pair(verb: &[u8], address: u64, size: u64) {
-    say(verb);
+// Release, extend or shorten, and the piece.
+fn say_piece(verb: u64, address: u64, size: u64) {
+    say_nth(b"release \nextend \nshorten ", verb);
     say_number(address);
     say(b" size ");
     say_number(size);
 }
 
-fn say_change(verb: &[u8], address: u64, size: u64, by: u64) {
-    say_pair(verb, address, size);
+fn say_change(verb: u64, address: u64, size: u64, by: u64) {
+    say_piece(verb, address, size);
     say(b" by ");
     say_number(by);
 }
 
-fn say_request(code: u64, size: u64) {
-    match code {
-        1 => say(b"metadata "),
-        2 => say(b"raw "),
-        _ => say(b"unknown type "),
+// The line of a type, or of an unknown one.
+fn named(code: u64) -> u64 {
+    if code <= 2 {
+        return code;
     }
+    0
+}
+
+fn say_request(code: u64, size: u64) {
+    say_nth(b"unknown type \nmetadata \nraw ", named(code));
     say_number(size);
 }
 
 pub fn say_call(call: Call) {
     match call {
         Call::Allocate(code, size) => say_request(code, size),
-        Call::Release(address, size) => say_pair(b"release ", address, size),
-        Call::Extend(address, size, by) => say_change(b"extend ", address, size, by),
-        Call::Shorten(address, size, by) => say_change(b"shorten ", address, size, by),
+        Call::Release(address, size) => say_piece(0, address, size),
+        Call::Extend(address, size, by) => say_change(1, address, size, by),
+        Call::Shorten(address, size, by) => say_change(2, address, size, by),
     }
 }

@@ -1,5 +1,9 @@
 // Standard output. What a write answers is not looked at: a program's output is compared as a whole.
+ghost use Prim.Native.Nat.{_≤_};
+ghost use lib.ListN.{length};
 use libc::STDOUT_FILENO;
+
+const LINE_END: u8 = b'\n';
 
 pub fn say(text: &[u8]) {
     io::write_all(STDOUT_FILENO, text);
@@ -13,4 +17,35 @@ pub fn say_number(n: u64) {
 pub fn say_line(text: &[u8]) {
     say(text);
     say(b"\n");
+}
+
+// Where the line ends that starts at `from`.
+fn line_end(text: &[u8], from: usize) -> usize
+    requires { ⌜ from ≤ length (now text) ⌝ }
+    ensures { λ r. ⌜ (from ≤ r) × (r ≤ length (now (text .entry))) ⌝ }
+{
+    let mut i = from;
+    while i < text.len() {
+        if text[i] == LINE_END {
+            return i;
+        }
+        i += 1;
+    }
+    i
+}
+
+// Line k of a text, counted from 0, without its end. Nothing, where there is none.
+pub fn say_nth(text: &[u8], k: u64) {
+    let mut from = 0;
+    let mut left = k;
+    while left > 0 {
+        let end = line_end(text, from);
+        if end == text.len() {
+            return;
+        }
+        from = end + 1;
+        left -= 1;
+    }
+    let end = line_end(text, from);
+    say(&text[from..end]);
 }

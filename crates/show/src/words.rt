@@ -4,7 +4,6 @@ ghost use mathlib.Core.Bool.{true};
 ghost use lib.ListN.{length, getD};
 ghost use Prim.Native.Nat.{ℕ, _≤_, _<_};
 use crate::text::say;
-use crate::text::say_line;
 use crate::text::say_number;
 
 // The index of the first word that differs; the length of the shorter one, where there is none.
@@ -39,13 +38,18 @@ pub fn same_words(a: &[u64], b: &[u64]) -> bool
     true
 }
 
-// That every word agrees, or the first one that differs.
-pub fn say_agreement(a: &[u64], b: &[u64]) {
-    if same_words(a, b) {
-        say_line(b"every word agrees");
-        return;
-    }
+// The first word that differs.
+pub fn say_difference(a: &[u64], b: &[u64]) {
     say(b"the first word that differs is word ");
     say_number(agreeing(a, b) as u64);
     say(b"\n");
+}
+
+// That every word agrees, or the first one that differs.
+pub fn say_agreement(a: &[u64], b: &[u64]) {
+    if same_words(a, b) {
+        say(b"every word agrees\n");
+        return;
+    }
+    say_difference(a, b);
 }

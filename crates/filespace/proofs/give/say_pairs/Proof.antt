@@ -1,17 +1,16 @@
 -- `filespace::give::say_pairs` is safe and ends: i goes up by pairs to the length.
 -- Assumes nothing.
 use Prim.Native.Nat.{_≤_, _-_}
-use mathlib.Core.Path.{_≡_}
-use lib.ListN.{length}
 use borrow.Author.Needs.{needs}
+use lib.ListN.{length}
 use Rattle.filespace.proofs.give.say_pairs.Statement.{statement}
 use Rattle.filespace.proofs.give.say_pairs.Tie as tie
 
 abbrev Inv-loop : tie.InvT-loop
-Inv-loop out₀ from pairs at₀ i₀ out at i = (i ≤ length pairs) × (length out ≡ length out₀)
+Inv-loop pairs i₀ i = i ≤ length pairs
 
 abbrev μ-loop : tie.MeasureT-loop
-μ-loop out₀ from pairs at₀ i₀ out at i = length pairs - i
+μ-loop pairs i₀ i = length pairs - i
 
 loop-holds : tie.Need-loop-holds Inv-loop μ-loop
 loop-holds c = search needs
@@ -46,9 +45,6 @@ loop-less c = search needs
 loop-again : tie.Need-loop-again Inv-loop μ-loop
 loop-again c = search needs
 
-same-length : tie.Need-same-length Inv-loop μ-loop
-same-length c = search needs
-
 returns : tie.Need-returns Inv-loop μ-loop
 returns c = search needs
 
@@ -69,5 +65,4 @@ say-pairs-spec =
     add-i
     loop-less
     loop-again
-    same-length
     returns)

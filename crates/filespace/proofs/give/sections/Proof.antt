@@ -1,8 +1,7 @@
 -- `filespace::give::sections` is safe and ends, and keeps its contract: the lent part is no longer than the slice.
 -- Assumes nothing.
-use Prim.Native.Nat.{_-_}
-use mathlib.Core.Path.{sym}
 use lib.Seq.{length-take-le}
+use mathlib.Core.Path.{sym}
 use borrow.Author.Needs.{needs}
 use Rattle.filespace.proofs.give.sections.Statement.{statement}
 use Rattle.filespace.proofs.give.sections.Tie as tie
@@ -20,22 +19,10 @@ text-requires : tie.Need-text-requires
 text-requires c κs = search needs
 
 slice-aggregate-say-pairs : tie.Need-slice-aggregate-say-pairs
-slice-aggregate-say-pairs c = sym (length-take-le _ _ (c .before .before .before .before .before .before .before .before .before .before .before .pair-words .ensures))
+slice-aggregate-say-pairs c = sym (length-take-le _ _ (search needs))
 
 say-pairs-requires : tie.Need-say-pairs-requires
 say-pairs-requires c κs = search needs
-
-slice-aggregate-text-2 : tie.Need-slice-aggregate-text-2
-slice-aggregate-text-2 c = search needs
-
-text-requires-2 : tie.Need-text-requires-2
-text-requires-2 c κs = search needs
-
-said-requires : tie.Need-said-requires
-said-requires c κs = search needs
-
-same-length : tie.Need-same-length
-same-length c = search needs
 
 returns : tie.Need-returns
 returns c = search needs
@@ -50,8 +37,4 @@ sections-spec =
     text-requires
     slice-aggregate-say-pairs
     say-pairs-requires
-    slice-aggregate-text-2
-    text-requires-2
-    said-requires
-    same-length
     returns)

@@ -1,17 +1,15 @@
 -- `filespace::map::say_marks` is safe and ends: each mark stands behind the former, up to the page's end.
 -- Assumes nothing.
-use Prim.Native.Nat.{_-_}
-use mathlib.Core.Path.{_≡_}
-use lib.ListN.{length}
+use Prim.Native.Nat.{_≤_, _-_}
 use borrow.Author.Needs.{needs}
 use Rattle.filespace.proofs.map.say_marks.Statement.{statement}
 use Rattle.filespace.proofs.map.say_marks.Tie as tie
 
 abbrev Inv-loop : tie.InvT-loop
-Inv-loop out₀ from table n start stop step at₀ address₀ out at address = length out ≡ length out₀
+Inv-loop table n start stop step address₀ address = start ≤ address
 
 abbrev μ-loop : tie.MeasureT-loop
-μ-loop out₀ from table n start stop step at₀ address₀ out at address = stop - address
+μ-loop table n start stop step address₀ address = stop - address
 
 loop-holds : tie.Need-loop-holds Inv-loop μ-loop
 loop-holds c = search needs
@@ -19,8 +17,11 @@ loop-holds c = search needs
 mark-at-requires : tie.Need-mark-at-requires Inv-loop μ-loop
 mark-at-requires c κs = search needs
 
-byte-requires : tie.Need-byte-requires Inv-loop μ-loop
-byte-requires c κs = search needs
+slice-aggregate-text : tie.Need-slice-aggregate-text Inv-loop μ-loop
+slice-aggregate-text c = search needs
+
+text-requires : tie.Need-text-requires Inv-loop μ-loop
+text-requires c κs = search needs
 
 add-address : tie.Need-add-address Inv-loop μ-loop
 add-address c = search needs
@@ -30,9 +31,6 @@ loop-less c = search needs
 
 loop-again : tie.Need-loop-again Inv-loop μ-loop
 loop-again c = search needs
-
-same-length : tie.Need-same-length Inv-loop μ-loop
-same-length c = search needs
 
 returns : tie.Need-returns Inv-loop μ-loop
 returns c = search needs
@@ -45,9 +43,9 @@ say-marks-spec =
     μ-loop
     loop-holds
     mark-at-requires
-    byte-requires
+    slice-aggregate-text
+    text-requires
     add-address
     loop-less
     loop-again
-    same-length
     returns)

@@ -1,28 +1,26 @@
 -- `filespace::map::say_rows` is safe and ends: at most 64 rows, each of a page before the end.
 -- Assumes nothing.
 use Prim.Native.Nat.{_≤_, _-_}
-use mathlib.Core.Path.{_≡_}
-use native.Mathlib.Omega.{arith}
-use lib.ListN.{length}
 use borrow.Author.Needs.{needs}
 use borrow.Author.Tests.{ltb-true}
+use native.Mathlib.Omega.{arith}
 use Rattle.filespace.proofs.map.say_rows.Statement.{statement}
 use Rattle.filespace.proofs.map.say_rows.Tie as tie
 
 abbrev Inv-loop : tie.InvT-loop
-Inv-loop out₀ from table n page end at₀ start₀ row₀ out at start row = (row ≤ 64) × (length out ≡ length out₀)
+Inv-loop table n page end start₀ row₀ start row = row ≤ 64
 
 abbrev μ-loop : tie.MeasureT-loop
-μ-loop out₀ from table n page end at₀ start₀ row₀ out at start row = 64 - row
+μ-loop table n page end start₀ row₀ start row = 64 - row
 
 loop-holds : tie.Need-loop-holds Inv-loop μ-loop
 loop-holds c = search needs
 
 say-row-requires : tie.Need-say-row-requires Inv-loop μ-loop
-say-row-requires c κs = (c .before .before .before .before .before .before .pre .0, record { some = c .before .before .before .before .before .before .pre .1 .some; page-most = c .before .before .before .before .before .before .pre .1 .page-most; end-most = omega (arith, ltb-true, c .before .if1 .taken, c .before .before .before .before .before .before .pre .1 .end-most) })
+say-row-requires c κs = (search needs, record { some = search needs; page-most = search needs; end-most = omega (arith, ltb-true, c .if1 .taken, c .before .before .before .before .pre .1 .end-most) })
 
 add-start : tie.Need-add-start Inv-loop μ-loop
-add-start c = omega (arith, ltb-true, c .before .before .before .before .if1 .taken, c .before .before .before .before .before .before .before .before .before .pre .1 .end-most, c .before .before .before .before .before .before .before .before .before .pre .1 .page-most)
+add-start c = omega (arith, ltb-true, c .before .if1 .taken, c .before .before .before .before .before .pre .1 .end-most, c .before .before .before .before .before .pre .1 .page-most)
 
 add-row : tie.Need-add-row Inv-loop μ-loop
 add-row c = search needs
@@ -35,9 +33,6 @@ loop-again c = search needs
 
 say-more-requires : tie.Need-say-more-requires Inv-loop μ-loop
 say-more-requires c κs = search needs
-
-same-length : tie.Need-same-length Inv-loop μ-loop
-same-length c = search needs
 
 returns : tie.Need-returns Inv-loop μ-loop
 returns c = search needs
@@ -55,5 +50,4 @@ say-rows-spec =
     loop-less
     loop-again
     say-more-requires
-    same-length
     returns)

@@ -1,23 +1,22 @@
 -- `filespace::say::blanks` is safe and ends, and keeps its contract: the lent part is no longer than the slice.
 -- Assumes nothing.
-use Prim.Native.Nat.{_≤_, _-_}
-use mathlib.Core.Path.{sym}
 use lib.Seq.{length-take-le}
+use mathlib.Core.Path.{sym}
 use borrow.Author.Needs.{needs}
 use Rattle.filespace.proofs.say.blanks.Statement.{statement}
 use Rattle.filespace.proofs.say.blanks.Tie as tie
+
+sub-spaces : tie.Need-sub-spaces
+sub-spaces c = search needs
 
 array-share-prefix-spaces : tie.Need-array-share-prefix-spaces
 array-share-prefix-spaces c = search needs
 
 slice-aggregate-text : tie.Need-slice-aggregate-text
-slice-aggregate-text c = let h : c .before .before .before .before .args .n ≤ 20 = search needs in sym (length-take-le _ _ h)
+slice-aggregate-text c = sym (length-take-le _ _ (search needs))
 
 text-requires : tie.Need-text-requires
 text-requires c κs = search needs
-
-same-length : tie.Need-same-length
-same-length c = search needs
 
 returns : tie.Need-returns
 returns c = search needs
@@ -25,13 +24,17 @@ returns c = search needs
 returns-2 : tie.Need-returns-2
 returns-2 c = search needs
 
+returns-3 : tie.Need-returns-3
+returns-3 c = search needs
+
 pub blanks-spec : {M : Type 1} → statement M
 blanks-spec =
     tie.close
     (tie.spec
+    sub-spaces
     array-share-prefix-spaces
     slice-aggregate-text
     text-requires
-    same-length
     returns
-    returns-2)
+    returns-2
+    returns-3)

@@ -1,17 +1,16 @@
 -- `filespace::say::hex` is safe and ends: i goes up to the length.
 -- Assumes nothing.
 use Prim.Native.Nat.{_≤_, _-_}
-use mathlib.Core.Path.{_≡_}
-use lib.ListN.{length}
 use borrow.Author.Needs.{needs}
+use lib.ListN.{length}
 use Rattle.filespace.proofs.say.hex.Statement.{statement}
 use Rattle.filespace.proofs.say.hex.Tie as tie
 
 abbrev Inv-loop : tie.InvT-loop
-Inv-loop out₀ at bytes next₀ i₀ out next i = (i ≤ length bytes) × (length out ≡ length out₀)
+Inv-loop bytes i₀ i = i ≤ length bytes
 
 abbrev μ-loop : tie.MeasureT-loop
-μ-loop out₀ at bytes next₀ i₀ out next i = length bytes - i
+μ-loop bytes i₀ i = length bytes - i
 
 loop-holds : tie.Need-loop-holds Inv-loop μ-loop
 loop-holds c = search needs
@@ -31,9 +30,6 @@ loop-less c = search needs
 loop-again : tie.Need-loop-again Inv-loop μ-loop
 loop-again c = search needs
 
-same-length : tie.Need-same-length Inv-loop μ-loop
-same-length c = search needs
-
 returns : tie.Need-returns Inv-loop μ-loop
 returns c = search needs
 
@@ -49,5 +45,4 @@ hex-spec =
     add-i
     loop-less
     loop-again
-    same-length
     returns)

@@ -1,17 +1,15 @@
 -- `filespace::tables::say_entries` is safe and ends: i goes up to the count of entries.
 -- Assumes nothing.
 use Prim.Native.Nat.{_≤_, _-_}
-use mathlib.Core.Path.{_≡_}
-use lib.ListN.{length}
 use borrow.Author.Needs.{needs}
 use Rattle.filespace.proofs.tables.say_entries.Statement.{statement}
 use Rattle.filespace.proofs.tables.say_entries.Tie as tie
 
 abbrev Inv-loop : tie.InvT-loop
-Inv-loop out₀ from page n table at₀ i₀ out at i = (i ≤ n) × (length out ≡ length out₀)
+Inv-loop page n table i₀ i = i ≤ n
 
 abbrev μ-loop : tie.MeasureT-loop
-μ-loop out₀ from page n table at₀ i₀ out at i = n - i
+μ-loop page n table i₀ i = n - i
 
 loop-holds : tie.Need-loop-holds Inv-loop μ-loop
 loop-holds c = search needs
@@ -55,9 +53,6 @@ loop-less c = search needs
 loop-again : tie.Need-loop-again Inv-loop μ-loop
 loop-again c = search needs
 
-same-length : tie.Need-same-length Inv-loop μ-loop
-same-length c = search needs
-
 returns : tie.Need-returns Inv-loop μ-loop
 returns c = search needs
 
@@ -81,5 +76,4 @@ say-entries-spec =
     add-i
     loop-less
     loop-again
-    same-length
     returns)

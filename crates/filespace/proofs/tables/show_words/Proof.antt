@@ -1,9 +1,7 @@
 -- `filespace::tables::show_words` is safe and ends, and keeps its contract: the lent part is no longer than the slice.
 -- Assumes nothing.
-use Prim.Native.Nat.{_≤_, _-_}
-use mathlib.Core.Path.{sym}
-use lib.ListN.{length}
 use lib.Seq.{length-take-le}
+use mathlib.Core.Path.{sym}
 use borrow.Author.Needs.{needs}
 use Rattle.filespace.proofs.tables.show_words.Statement.{statement}
 use Rattle.filespace.proofs.tables.show_words.Tie as tie
@@ -14,23 +12,17 @@ slice-aggregate-text c = search needs
 text-requires : tie.Need-text-requires
 text-requires c κs = search needs
 
-slice-aggregate-say-words : tie.Need-slice-aggregate-say-words
-slice-aggregate-say-words c = let h : c .before .before .before .before .before .before .before .before .before .args .run .used ≤ length (c .before .before .before .before .before .before .before .before .before .args .table .now) = search needs in sym (length-take-le _ _ h)
+slice-aggregate-words : tie.Need-slice-aggregate-words
+slice-aggregate-words c = sym (length-take-le _ _ (search needs))
 
-say-words-requires : tie.Need-say-words-requires
-say-words-requires c κs = search needs
+words-requires : tie.Need-words-requires
+words-requires c κs = search needs
 
 slice-aggregate-text-2 : tie.Need-slice-aggregate-text-2
 slice-aggregate-text-2 c = search needs
 
 text-requires-2 : tie.Need-text-requires-2
 text-requires-2 c κs = search needs
-
-said-requires : tie.Need-said-requires
-said-requires c κs = search needs
-
-same-length : tie.Need-same-length
-same-length c = search needs
 
 returns : tie.Need-returns
 returns c = search needs
@@ -41,10 +33,8 @@ show-words-spec =
     (tie.spec
     slice-aggregate-text
     text-requires
-    slice-aggregate-say-words
-    say-words-requires
+    slice-aggregate-words
+    words-requires
     slice-aggregate-text-2
     text-requires-2
-    said-requires
-    same-length
     returns)

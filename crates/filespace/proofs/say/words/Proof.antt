@@ -1,17 +1,16 @@
--- `filespace::tables::say_words` is safe and ends: i goes up to the length.
+-- `filespace::say::words` is safe and ends: i goes up to the length.
 -- Assumes nothing.
 use Prim.Native.Nat.{_≤_, _-_}
-use mathlib.Core.Path.{_≡_}
-use lib.ListN.{length}
 use borrow.Author.Needs.{needs}
-use Rattle.filespace.proofs.tables.say_words.Statement.{statement}
-use Rattle.filespace.proofs.tables.say_words.Tie as tie
+use lib.ListN.{length}
+use Rattle.filespace.proofs.say.words.Statement.{statement}
+use Rattle.filespace.proofs.say.words.Tie as tie
 
 abbrev Inv-loop : tie.InvT-loop
-Inv-loop out₀ from words at₀ i₀ out at i = (i ≤ length words) × (length out ≡ length out₀)
+Inv-loop words i₀ i = i ≤ length words
 
 abbrev μ-loop : tie.MeasureT-loop
-μ-loop out₀ from words at₀ i₀ out at i = length words - i
+μ-loop words i₀ i = length words - i
 
 loop-holds : tie.Need-loop-holds Inv-loop μ-loop
 loop-holds c = search needs
@@ -34,14 +33,11 @@ loop-less c = search needs
 loop-again : tie.Need-loop-again Inv-loop μ-loop
 loop-again c = search needs
 
-same-length : tie.Need-same-length Inv-loop μ-loop
-same-length c = search needs
-
 returns : tie.Need-returns Inv-loop μ-loop
 returns c = search needs
 
-pub say-words-spec : {M : Type 1} → statement M
-say-words-spec =
+pub words-spec : {M : Type 1} → statement M
+words-spec =
     tie.close
     (tie.spec
     Inv-loop
@@ -53,5 +49,4 @@ say-words-spec =
     add-i
     loop-less
     loop-again
-    same-length
     returns)

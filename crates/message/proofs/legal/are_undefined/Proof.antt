@@ -1,4 +1,4 @@
--- `message::rules::are_undefined` meets its contract: the addresses not yet passed are all undefined exactly when all are.
+-- `message::legal::are_undefined` meets its contract: the addresses not yet passed are all undefined exactly when all are.
 -- Assumes nothing.
 use Prim.Native.Nat.{_≤_, _<_, _-_}
 use mathlib.Core.Path.{_≡_, refl, _∙_}
@@ -7,8 +7,8 @@ use borrow.Author.Needs.{needs}
 use Rattle.message.proofs.RuleLaws.{undefined-next, undefined-stop, undefined-end}
 use Rattle.message.specs.Layout.{types}
 use Rattle.message.specs.Message.{undefinedb}
-use Rattle.message.proofs.rules.are_undefined.Statement.{statement}
-use Rattle.message.proofs.rules.are_undefined.Tie as tie
+use Rattle.message.proofs.legal.are_undefined.Statement.{statement}
+use Rattle.message.proofs.legal.are_undefined.Tie as tie
 
 abbrev Inv-loop : tie.InvT-loop
 Inv-loop addresses i₀ i = (i ≤ types) × (undefinedb (drop i addresses) ≡ undefinedb addresses)

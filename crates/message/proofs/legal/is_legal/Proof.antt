@@ -1,10 +1,10 @@
--- `message::rules::is_legal` meets its contract: the rules are tested in the order of the definition.
+-- `message::legal::is_legal` meets its contract: the rules are tested in the order of the definition.
 -- Assumes nothing.
 use mathlib.Core.Path.{sym, _∙_}
 use borrow.Author.Needs.{needs}
 use Rattle.message.proofs.RuleLaws.{legal-addresses, legal-strategy, legal-persist, legal-page}
-use Rattle.message.proofs.rules.is_legal.Statement.{statement}
-use Rattle.message.proofs.rules.is_legal.Tie as tie
+use Rattle.message.proofs.legal.is_legal.Statement.{statement}
+use Rattle.message.proofs.legal.is_legal.Tie as tie
 
 returns : tie.Need-returns
 returns c = sym (legal-strategy (c .before .before .args .fields) (c .if1 .taken))

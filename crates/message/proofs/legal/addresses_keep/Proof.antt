@@ -1,10 +1,10 @@
--- `message::rules::addresses_keep` meets its contract: each return is the definition after the tests that led to it.
+-- `message::legal::addresses_keep` meets its contract: each return is the definition after the tests that led to it.
 -- Assumes nothing.
 use mathlib.Core.Path.{sym, _∙_}
 use borrow.Author.Needs.{needs}
 use Rattle.message.proofs.RuleLaws.{addresses-kept, addresses-small, addresses-large}
-use Rattle.message.proofs.rules.addresses_keep.Statement.{statement}
-use Rattle.message.proofs.rules.addresses_keep.Tie as tie
+use Rattle.message.proofs.legal.addresses_keep.Statement.{statement}
+use Rattle.message.proofs.legal.addresses_keep.Tie as tie
 
 returns : tie.Need-returns
 returns c = let a = c .before .args in sym (addresses-kept (a .persist) (a .small) (a .large) (c .if1 .taken))
