@@ -10,7 +10,7 @@ ghost use mathlib.Core.List.{[], _∷_};
 ghost use Prim.Native.Nat.{_+_, _*_, _≤_};
 ghost use lib.ListN.{length};
 ghost use Rattle.pieces.specs.Pieces.{classOf, freeb, sameClass, largeFreeb, kindOf, kindb, statusOf};
-ghost use Rattle.pieces.specs.Words.{entryWords, kindAt, wordsAt, pieceOf, entryAt, laid};
+ghost use Rattle.pieces.specs.Words.{entryWords, wordsAt, pieceOf, entryAt, laid};
 
 pub enum Class {
     SmallMetadata,
@@ -140,14 +140,6 @@ pub fn status_of(kind: u64) -> Status
         5 => Status::Free(Class::SmallRaw),
         _ => Status::Free(Class::Large),
     }
-}
-
-// The word that says entry i's kind.
-pub fn kind_at(table: &[u64], i: usize) -> u64
-    requires { ⌜ (i + 1) * entryWords ≤ length (now table) ⌝ }
-    ensures { λ r. ⌜ r ≡ kindAt (now (table .entry)) i ⌝ }
-{
-    table[i * ENTRY_WORDS + KIND_WORD]
 }
 
 // The words of entry i.

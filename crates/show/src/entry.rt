@@ -30,13 +30,13 @@ fn say_kind(kind: u64) {
 fn say_entry(table: &[u64], i: usize)
     requires { ⌜ (i + 1) * entryWords ≤ length (now table) ⌝ }
 {
-    let piece = pieces::piece_at(table, i);
+    let entry = pieces::words_at(table, i);
     say(b"    at ");
-    say_number(piece.address);
+    say_number(entry.address);
     say(b" size ");
-    say_number(piece.size);
+    say_number(entry.size);
     say(b" ");
-    say_kind(pieces::kind_at(table, i));
+    say_kind(entry.kind);
     say(b"\n");
 }
 
