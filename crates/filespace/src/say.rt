@@ -1,7 +1,10 @@
 // Standard output. What a write answers is not looked at.
+ghost use mathlib.Core.Path.{_≡_};
+ghost use Prim.Native.Nat.{_+_, _≤_};
+ghost use lib.ListN.{length};
+ghost use Rattle.script.specs.Laid.{numberBytes};
 use libc::STDOUT_FILENO;
-
-const DIGITS: usize = 20;
+use script::text::NUMBER_BYTES;
 
 pub fn text(text: &[u8]) {
     io::write_all(STDOUT_FILENO, text);
@@ -24,9 +27,9 @@ pub fn spaced(n: u64) {
 
 // The blanks before `used` bytes in a column, up to 20 of them.
 fn blanks(width: usize, used: usize) {
-    let spaces = [b' '; DIGITS];
+    let spaces = [b' '; NUMBER_BYTES];
     if used < width {
-        if width <= DIGITS {
+        if width <= NUMBER_BYTES {
             text(&spaces[..width - used]);
         }
     }
@@ -34,7 +37,7 @@ fn blanks(width: usize, used: usize) {
 
 // A number in a column of a width.
 pub fn column(n: u64, width: usize) {
-    let mut digits = [0u8; DIGITS];
+    let mut digits = [0u8; NUMBER_BYTES];
     let k = io::decimal(n, &mut digits);
     blanks(width, k);
     text(&digits[..k]);
@@ -58,11 +61,28 @@ pub fn hex(bytes: &[u8]) {
     }
 }
 
-// The words of a list, each behind a blank.
+// Lays a blank and a number at a place, and answers where they end.
+fn lay_spaced(out: &mut [u8], at: usize, n: u64) -> usize
+    requires { ⌜ at + 1 + numberBytes ≤ length (now out) ⌝ }
+    ensures { λ r. ⌜ (r ≤ length (now (out .exit))) × (length (now (out .exit)) ≡ length (now (out .entry))) ⌝ }
+{
+    let next = script::text::lay(out, at, b" ");
+    script::text::lay_number(out, next, n)
+}
+
+// The words of a list, each behind a blank. They are gathered, since a table has thousands of them.
 pub fn words(words: &[u64]) {
-    let mut i = 0;
+    let mut out = io::buffer();
+    let mut at: usize = 0;
+    let mut i: usize = 0;
+    // The first `at` bytes are laid, and not written yet.
     while i < words.len() {
-        spaced(words[i]);
+        if out.len() - at <= NUMBER_BYTES {
+            text(&out[..at]);
+            at = 0;
+        }
+        at = lay_spaced(&mut out, at, words[i]);
         i += 1;
     }
+    text(&out[..at]);
 }

@@ -1,19 +1,21 @@
--- Laws of the value of digits, in the order of specs/Numbers.antt, and the round trip.
+-- Laws of the value of digits, in the order of specs/Numbers.antt, the round trip, and how many digits a number has.
 -- Not here: laws of `every` (WordLaws).
 -- Assumes nothing.
 use Prim.Native.Nat.{ℕ, zero, suc, _+_, _-_, _*_, _/_, _%_, _^_, _<_, _≤_}
 use mathlib.Core.Bool.{Bool, true, false, cond}
 use mathlib.Core.List.{List, [], _∷_, _++_}
 use mathlib.Core.Path.{_≡_, refl, _∙_}
-use native.Mathlib.Nat.{pow-suc, div-lt-iff-lt-mul, div-add-mod', mod-lt}
+use native.Mathlib.Decide.{decLe}
+use native.Mathlib.Nat.{pow-suc, pow-le-pow-right, lt-of-not-le, div-lt-iff-lt-mul, div-add-mod', mod-lt}
 use native.Mathlib.Numerals.{add-one}
 use native.Mathlib.Omega.{arith}
 use lib.Dec.{leb, ltb}
 use lib.ListN.{length, drop, getD, drop-of-length-le, length-append}
 use lib.Seq.{drop-cons}
 use borrow.Author.Tests.{le-leb, lt-ltb, le-ltb, ne-eqb, leb-true, ltb-false}
-use Rattle.io.specs.Digits.{digits, glyph}
+use Rattle.io.specs.Digits.{digits, glyph, Fewest}
 use Rattle.script.proofs.WordLaws.{and-left, and-right}
+use Rattle.script.specs.Laid.{numberBytes}
 use Rattle.script.specs.Numbers.{digitb, valueFrom, tooLarge, longerBy, fitting, numberSaid, RoundTrip}
 use Rattle.script.specs.Words.{every}
 use Rattle.script.specs.declared.numbers.Longer.the-variants.{To, Beyond}
@@ -109,3 +111,16 @@ longer-beyond v d e = ltb-false (v * 10 + d) tooLarge (by (ltb (v * 10 + d) tooL
     by : (b : Bool) → cond b (To (v * 10 + d)) Beyond ≡ Beyond → b ≡ false
     by true g = let z : _≡_ {A = ℕ} 0 1 = cc in absurd (omega arith)
     by false g = refl
+
+-- ---- how many digits a number has
+
+-- a number of 64 bits has at most 20
+pub few-places : (n k : ℕ) → n < 2 ^ 64 → Fewest 10 1 n k → k ≤ numberBytes
+few-places n k h f =
+    elim (decLe k 20) [
+      | yes l ↦ l
+      | no g ↦
+          let l : 20 < k = lt-of-not-le g in
+          let m : 10 ^ 20 ≤ 10 ^ (k - 1) = pow-le-pow-right {n = 10} (omega arith) {i = 20} {j = k - 1} (omega arith) in
+          absurd (omega (arith, f .2 (omega arith)))
+    ]
