@@ -97,6 +97,7 @@ pub record FullThere (sp : Space) (w : List ℕ) (c : Class) (s : ℕ) : Type 0 
 
 -- ---- the rows
 
+-- of an opening: with E and n 0 the ranges are those of P, M and the table's length
 abbrev pub Row : Call → Space → List ℕ → ℕ → Type 0
 Row (opens P M) sp w r = Given r outOfRange (Ranges P M 0 0 (length w) → ⊥) (r ≡ 0)
 Row (allocates t s) sp w r =
