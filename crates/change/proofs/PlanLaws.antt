@@ -19,7 +19,7 @@ use Rattle.change.proofs.AroundLaws.{entries-parts, former-is, NextIs, 
 use Rattle.change.specs.Change.{formerStep, formerOf, nextOf, endBehind, planOf, PlanFits, Planned}
 use Rattle.change.specs.declared.around.Former.{Former}
 use Rattle.change.specs.declared.plan.Plan.{Plan}
-use Rattle.choose.specs.Spot.{EndsFit}
+use Rattle.choose.specs.Place.{EndsFit}
 use Rattle.edit.proofs.FewLaws.{holding-more}
 use Rattle.edit.specs.Edit.{held, Holding}
 use Rattle.edit.specs.declared.few.Few.{Few}

@@ -25,8 +25,8 @@ use Rattle.pieces.specs.Pieces.{piece, behind, freeOf, Small, EntryIs, entry-he
 use Rattle.pieces.specs.Words.{entryAt, entries}
 use Rattle.pieces.proofs.PieceLaws.{same-class, class-same}
 use Rattle.table.specs.Sound.{Tiles, tile}
-use Rattle.choose.specs.declared.Place.{Place}
-use Rattle.choose.specs.declared.Place.the-variants.{At, Nothing}
+use Rattle.choose.specs.declared.Chosen.{Chosen}
+use Rattle.choose.specs.declared.Chosen.the-variants.{At, Nothing}
 use Rattle.choose.specs.Choose.{roomIn, fitsIn, better, bestOf, best}
 use Rattle.choose.specs.Choose.{Best, OneBest, NoneEmpty, BestPlace, FitsSmall, FitsLarge, SmallPlace, LargePlace}
 use Rattle.choose.proofs.ChooseLaws.{room-small}
@@ -51,7 +51,7 @@ one-entry f (tile {a = a} {z = z} {t = t} r) (entry-later p) entry-here e =
 one-entry f (tile r) (entry-later p) (entry-later q) e =
     ap next-one (one-entry (λ x m. f x (List·Memᴰ·tail m)) r p q e)
   where
-    next-one : Place → Place
+    next-one : Chosen → Chosen
     next-one (At i x) = At (suc i) x
     next-one Nothing = Nothing
 
@@ -66,7 +66,7 @@ entry-read w j (suc n) (entry-later {i = i} e) =
 
 -- ---- two best places are one
 
-one-best : (Fits : Piece → Type 0) {E a : ℕ} {es : List Piece} → NoneEmpty es → Tiles E a es → (q r : Place)
+one-best : (Fits : Piece → Type 0) {E a : ℕ} {es : List Piece} → NoneEmpty es → Tiles E a es → (q r : Chosen)
     → Best Fits es q → Best Fits es r → q ≡ r
 one-best Fits f t Nothing Nothing g h = refl
 one-best Fits f t Nothing (At j y) g h = absurd (g y (entry-among (h .entry)) (h .fitting))
@@ -85,7 +85,7 @@ record Before (x y : Piece) : Type 0 where
   smaller : x .size ≤ y .size
   lower : y .size ≡ x .size → x .address ≤ y .address
 
-abbrev Beats : Place → Piece → Type 0
+abbrev Beats : Chosen → Piece → Type 0
 Beats Nothing y = ⊥
 Beats (At i x) y = Before x y
 
@@ -96,7 +96,7 @@ before-trans : {x y z : Piece} → x .size < y .size → Before y z → Before x
 before-trans l h = record { smaller = omega (arith, h .smaller); lower = λ e. absurd (omega (arith, h .smaller)) }
 
 module _ (fits : Piece → Bool) where
-  best-of-keeps : (i : ℕ) (b : Place) (x y : Piece) → Beats b y → Beats (bestOf fits i b x) y
+  best-of-keeps : (i : ℕ) (b : Chosen) (x y : Piece) → Beats b y → Beats (bestOf fits i b x) y
   unfolding bestOf
   best-of-keeps i Nothing x y h = absurd h
   best-of-keeps i (At j v) x y h = go (fits x) (ltb (x .size) (v .size)) refl
@@ -106,21 +106,21 @@ module _ (fits : Piece → Bool) where
       go true false e = h
       go false t e = h
 
-  best-keeps : (es : List Piece) (i : ℕ) (b : Place) (y : Piece) → Beats b y → Beats (best fits i b es) y
+  best-keeps : (es : List Piece) (i : ℕ) (b : Chosen) (y : Piece) → Beats b y → Beats (best fits i b es) y
   unfolding best
   best-keeps [] i b y h = h
   best-keeps (x ∷ es) i b y h = best-keeps es (i + 1) (bestOf fits i b x) y (best-of-keeps i b x y h)
 
   -- what is held does not lie above a
-  abbrev Under : ℕ → Place → Type 0
+  abbrev Under : ℕ → Chosen → Type 0
   Under a Nothing = Unit {0}
   Under a (At i x) = x .address ≤ a
 
-  under-more : (a c : ℕ) (b : Place) → a ≤ c → Under a b → Under c b
+  under-more : (a c : ℕ) (b : Chosen) → a ≤ c → Under a b → Under c b
   under-more a c Nothing l h = tt
   under-more a c (At i x) l h = omega arith
 
-  best-of-under : (i : ℕ) (b : Place) (x : Piece) → Under (x .address) b → Under (behind x) (bestOf fits i b x)
+  best-of-under : (i : ℕ) (b : Chosen) (x : Piece) → Under (x .address) b → Under (behind x) (bestOf fits i b x)
   unfolding bestOf
   best-of-under i b x h = go (fits x && better (x .size) b)
     where
@@ -128,7 +128,7 @@ module _ (fits : Piece → Bool) where
       go true = omega arith
       go false = under-more (x .address) (behind x) b (omega arith) h
 
-  best-of-beats : (i : ℕ) (b : Place) (x : Piece) → Under (x .address) b → fits x ≡ true → Beats (bestOf fits i b x) x
+  best-of-beats : (i : ℕ) (b : Chosen) (x : Piece) → Under (x .address) b → fits x ≡ true → Beats (bestOf fits i b x) x
   unfolding bestOf
   best-of-beats i Nothing x h ok = rw ok (before-self x)
   best-of-beats i (At j v) x h ok = rw ok (go (ltb (x .size) (v .size)) refl)
@@ -137,7 +137,7 @@ module _ (fits : Piece → Bool) where
       go true e = before-self x
       go false e = record { smaller = ltb-false (x .size) (v .size) e; lower = λ q. h }
 
-  best-beats : {E a : ℕ} {es : List Piece} (i : ℕ) (b : Place) (y : Piece) → Tiles E a es → Under a b → List·Memᴰ y es → fits y ≡ true
+  best-beats : {E a : ℕ} {es : List Piece} (i : ℕ) (b : Chosen) (y : Piece) → Tiles E a es → Under a b → List·Memᴰ y es → fits y ≡ true
       → Beats (best fits i b es) y
   unfolding best
   best-beats i b y (tile {a = a} {z = z} {t = t} {es = es} r) u (List·Memᴰ·head e) ok =
@@ -146,16 +146,16 @@ module _ (fits : Piece → Bool) where
       best-beats (i + 1) (bestOf fits i b (piece a z t)) y r (best-of-under i b (piece a z t) u) m ok
 
   -- where the place r, that the walk over es from entry i on finds, comes from
-  data From (es : List Piece) (i : ℕ) (b : Place) : Place → Type 0 where
+  data From (es : List Piece) (i : ℕ) (b : Chosen) : Chosen → Type 0 where
     kept : From es i b b
     found : {j k : ℕ} {x : Piece} → k ≡ i + j → EntryIs es j x → fits x ≡ true → From es i b (At k x)
 
-  best-from : (es : List Piece) (i : ℕ) (b : Place) → From es i b (best fits i b es)
+  best-from : (es : List Piece) (i : ℕ) (b : Chosen) → From es i b (best fits i b es)
   unfolding best bestOf
   best-from [] i b = kept
   best-from (x ∷ es) i b = go (fits x) (better (x .size) b) refl (best-from es (i + 1) (bestOf fits i b x))
     where
-      go : (s t : Bool) → fits x ≡ s → {r : Place} → From es (i + 1) (cond (s && t) (At i x) b) r → From (x ∷ es) i b r
+      go : (s t : Bool) → fits x ≡ s → {r : Chosen} → From es (i + 1) (cond (s && t) (At i x) b) r → From (x ∷ es) i b r
       go true true e kept = found {j = 0} {k = i} (omega arith) entry-here e
       go true false e kept = kept
       go false t e kept = kept
@@ -166,7 +166,7 @@ module _ (fits : Piece → Bool) where
   best-is : {E a : ℕ} (es : List Piece) → Tiles E a es → Best (λ x. fits x ≡ true) es (best fits 0 Nothing es)
   best-is es t = go (best fits 0 Nothing es) (best-from es 0 Nothing) (λ y. best-beats 0 Nothing y t tt)
     where
-      go : (r : Place) → From es 0 Nothing r → ((y : Piece) → List·Memᴰ y es → fits y ≡ true → Beats r y) → Best (λ x. fits x ≡ true) es r
+      go : (r : Chosen) → From es 0 Nothing r → ((y : Piece) → List·Memᴰ y es → fits y ≡ true → Beats r y) → Best (λ x. fits x ≡ true) es r
       go Nothing h beats = beats
       go (At k x) (found {j = j} n q ok) beats =
           let e : j ≡ k = omega arith in
@@ -181,7 +181,7 @@ module _ (fits : Piece → Bool) where
 pub best-found : (fits : Piece → Bool) (es : List Piece) (i : ℕ) (x : Piece) → best fits 0 Nothing es ≡ At i x → EntryIs es i x × (fits x ≡ true)
 best-found fits es i x e = go (best fits 0 Nothing es) (best-from fits es 0 Nothing) e
   where
-    go : (r : Place) → From fits es 0 Nothing r → r ≡ At i x → EntryIs es i x × (fits x ≡ true)
+    go : (r : Chosen) → From fits es 0 Nothing r → r ≡ At i x → EntryIs es i x × (fits x ≡ true)
     go Nothing h q = let z : _≡_ {A = ℕ} 0 1 = cc in absurd (omega arith)
     go (At k y) (found {j = j} n p ok) q =
         let k-is : k ≡ i = cc in
@@ -197,7 +197,7 @@ best-place fits E a es filled t =
 -- ---- what fits, spelled out
 
 -- a place is the best by two descriptions of what fits that agree
-best-same : (F G : Piece → Type 0) → ((x : Piece) → F x → G x) → ((x : Piece) → G x → F x) → (es : List Piece) (r : Place)
+best-same : (F G : Piece → Type 0) → ((x : Piece) → F x → G x) → ((x : Piece) → G x → F x) → (es : List Piece) (r : Chosen)
     → Best F es r → Best G es r
 best-same F G to from es Nothing h = λ y m g. h y m (from y g)
 best-same F G to from es (At i x) h =
@@ -208,7 +208,7 @@ best-same F G to from es (At i x) h =
       lowest = λ y m g. h .lowest y m (from y g);
     }
 
-one-best-same : (F G : Piece → Type 0) → ((x : Piece) → F x → G x) → ((x : Piece) → G x → F x) → (es : List Piece) (r : Place)
+one-best-same : (F G : Piece → Type 0) → ((x : Piece) → F x → G x) → ((x : Piece) → G x → F x) → (es : List Piece) (r : Chosen)
     → OneBest F es r → OneBest G es r
 one-best-same F G to from es r h =
     record { is = best-same F G to from es r (h .is); only = λ q g. h .only q (best-same G F from to es q g) }

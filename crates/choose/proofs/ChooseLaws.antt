@@ -20,8 +20,8 @@ use Rattle.pieces.specs.declared.Piece.{Piece}
 use Rattle.pieces.specs.Pieces.{freeOf, Small, metadata, raw}
 use Rattle.pieces.specs.Words.{entryAt, entries}
 use Rattle.pieces.proofs.WordLaws.{entries-next, entries-none}
-use Rattle.choose.specs.declared.Place.{Place}
-use Rattle.choose.specs.declared.Place.the-variants.{At}
+use Rattle.choose.specs.declared.Chosen.{Chosen}
+use Rattle.choose.specs.declared.Chosen.the-variants.{At}
 use Rattle.choose.specs.Choose.{roomIn, fitsIn, better, bestOf, best}
 
 -- ---- room
@@ -71,10 +71,10 @@ module _ (P : ℕ) (k : Class) (s : ℕ) (x : Piece) where
 
 -- ---- the walk
 
-pub better-held : (z : ℕ) (b : Place) {i : ℕ} {x : Piece} → b ≡ At i x → better z b ≡ ltb z (x .size)
+pub better-held : (z : ℕ) (b : Chosen) {i : ℕ} {x : Piece} → b ≡ At i x → better z b ≡ ltb z (x .size)
 better-held z b e = rw e
 
-module _ (fits : Piece → Bool) (i : ℕ) (b : Place) (x : Piece) where
+module _ (fits : Piece → Bool) (i : ℕ) (b : Chosen) (x : Piece) where
   pub best-of-better : fits x ≡ true → better (x .size) b ≡ true → bestOf fits i b x ≡ At i x
   unfolding bestOf
   best-of-better e d = rw (e, d)
@@ -87,12 +87,12 @@ module _ (fits : Piece → Bool) (i : ℕ) (b : Place) (x : Piece) where
   unfolding bestOf
   best-of-misfit e = rw e
 
-module _ (fits : Piece → Bool) (w : List ℕ) (n i : ℕ) (b : Place) where
-  pub best-next : i < n → (x : Piece) → x ≡ entryAt w i → (b′ : Place) → bestOf fits i b x ≡ b′
+module _ (fits : Piece → Bool) (w : List ℕ) (n i : ℕ) (b : Chosen) where
+  pub best-next : i < n → (x : Piece) → x ≡ entryAt w i → (b′ : Chosen) → bestOf fits i b x ≡ b′
       → best fits i b (entries w i (n - i)) ≡ best fits (i + 1) b′ (entries w (i + 1) (n - (i + 1)))
   unfolding best
   best-next lt x is b′ to =
-      rw (entries-next w n i lt, ← is) (ap (λ (c : Place). best fits (i + 1) c (entries w (i + 1) (n - (i + 1)))) to)
+      rw (entries-next w n i lt, ← is) (ap (λ (c : Chosen). best fits (i + 1) c (entries w (i + 1) (n - (i + 1)))) to)
 
   pub best-end : n ≤ i → best fits i b (entries w i (n - i)) ≡ b
   unfolding best

@@ -1,4 +1,4 @@
 -- The laws that the proofs of this and of the higher crates cite.
 pub mod ChooseLaws
 pub mod BestLaws
-pub mod SpotLaws
+pub mod PlaceForLaws

@@ -30,8 +30,8 @@ use Rattle.pieces.specs.declared.Status.the-variants.{Free}
 use Rattle.pieces.specs.declared.Piece.{Piece}
 use Rattle.pieces.specs.Pieces.{behind, freeOf, Small, EntryIs}
 use Rattle.table.specs.Sound.{Tiles}
-use Rattle.choose.specs.declared.Place.{Place}
-use Rattle.choose.specs.declared.Place.the-variants.{At, Nothing}
+use Rattle.choose.specs.declared.Chosen.{Chosen}
+use Rattle.choose.specs.declared.Chosen.the-variants.{At, Nothing}
 
 -- ---- what fits
 
@@ -45,14 +45,14 @@ fitsIn P k s x = freeOf k (x .status) && roomIn P k s (x .address) (x .size)
 
 -- ---- the walk
 
-abbrev pub better : ℕ → Place → Bool
+abbrev pub better : ℕ → Chosen → Bool
 better z (At i x) = ltb z (x .size)
 better z Nothing = true
 
-unfoldable pub bestOf : (Piece → Bool) → ℕ → Place → Piece → Place
+unfoldable pub bestOf : (Piece → Bool) → ℕ → Chosen → Piece → Chosen
 bestOf fits i b x = cond (fits x && better (x .size) b) (At i x) b
 
-unfoldable pub best : (Piece → Bool) → ℕ → Place → List Piece → Place
+unfoldable pub best : (Piece → Bool) → ℕ → Chosen → List Piece → Chosen
 best fits i b [] = b
 best fits i b (x ∷ es) = best fits (i + 1) (bestOf fits i b x) es
 
@@ -64,13 +64,13 @@ pub record BestAt (Fits : Piece → Type 0) (es : List Piece) (i : ℕ) (x : Pie
   pub smallest : (y : Piece) → List·Memᴰ y es → Fits y → x .size ≤ y .size
   pub lowest : (y : Piece) → List·Memᴰ y es → Fits y → y .size ≡ x .size → x .address ≤ y .address
 
-abbrev pub Best : (Piece → Type 0) → List Piece → Place → Type 0
+abbrev pub Best : (Piece → Type 0) → List Piece → Chosen → Type 0
 Best Fits es (At i x) = BestAt Fits es i x
 Best Fits es Nothing = (y : Piece) → List·Memᴰ y es → Fits y → ⊥
 
-pub record OneBest (Fits : Piece → Type 0) (es : List Piece) (r : Place) : Type 0 where
+pub record OneBest (Fits : Piece → Type 0) (es : List Piece) (r : Chosen) : Type 0 where
   pub is : Best Fits es r
-  pub only : (q : Place) → Best Fits es q → q ≡ r
+  pub only : (q : Chosen) → Best Fits es q → q ≡ r
 
 -- ---- what is proved
 

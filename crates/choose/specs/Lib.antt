@@ -1,3 +1,3 @@
 -- What the contracts of `choose` cite, and what is proved of it.
 pub mod Choose
-pub mod Spot
+pub mod Place

@@ -1,6 +1,6 @@
 // The best place for a piece: of the free entries that it fits, the smallest, and of several as small the lowest. Nothing is added to a size
 // or an address, so every table may be lent and every size up to 2^64 - 1 asked.
-pub mod spot;
+pub mod place;
 
 ghost use mathlib.Core.Path.{_≡_};
 ghost use Prim.Native.Nat.{_*_, _≤_, _<_};
@@ -12,7 +12,7 @@ use pieces::Piece;
 use pieces::kind;
 
 // An entry's number with its piece, or nothing where none fits.
-pub enum Place {
+pub enum Chosen {
     At(usize, Piece),
     Nothing,
 }
@@ -37,21 +37,21 @@ fn room(p: u64, class: Class, s: u64, address: u64, size: u64) -> bool
 }
 
 // Whether an entry of this size is better than the best so far.
-fn beats(size: u64, held: Place) -> bool
+fn beats(size: u64, held: Chosen) -> bool
     ensures { λ r. ⌜ r ≡ better size held ⌝ }
 {
     match held {
-        Place::Nothing => true,
-        Place::At(_, piece) => size < piece.size,
+        Chosen::Nothing => true,
+        Chosen::At(_, piece) => size < piece.size,
     }
 }
 
 // The best place for s bytes of a class among the first n entries.
-pub fn best_place(p: u64, class: Class, s: u64, n: usize, table: &[u64]) -> Place
+pub fn best_place(p: u64, class: Class, s: u64, n: usize, table: &[u64]) -> Chosen
     requires { ⌜ (0 < p) × (n * entryWords ≤ length (now table)) ⌝ }
-    ensures { λ r. ⌜ r ≡ best (fitsIn p class s) 0 Place.Nothing (entries (now (table .entry)) 0 n) ⌝ }
+    ensures { λ r. ⌜ r ≡ best (fitsIn p class s) 0 Chosen.Nothing (entries (now (table .entry)) 0 n) ⌝ }
 {
-    let mut held = Place::Nothing;
+    let mut held = Chosen::Nothing;
     let mut i: usize = 0;
     // The best of all entries is the best of those from i on and of what is held.
     'walk: loop {
@@ -63,7 +63,7 @@ pub fn best_place(p: u64, class: Class, s: u64, n: usize, table: &[u64]) -> Plac
             // What is no better is not asked for its room, which can cost a division.
             if beats(entry.size, held) {
                 if room(p, class, s, entry.address, entry.size) {
-                    held = Place::At(i, pieces::piece_of(entry));
+                    held = Chosen::At(i, pieces::piece_of(entry));
                     // An exact fit cannot be beaten, and the walk goes up, so the first one is the lowest.
                     if entry.size == s {
                         break 'walk;

@@ -13,12 +13,12 @@ use mathlib.Core.Path.{_≡_, refl, sym, ap, _∙_, subst}
 use native.Mathlib.Omega.{arith}
 use lib.ListN.{length}
 use borrow.Author.Tests.{ltb-false, eqb-false}
-use Rattle.choose.specs.Spot.{spotOf, spotAddress}
-use Rattle.choose.specs.declared.spot.Spot.{Spot}
+use Rattle.choose.specs.Place.{placeFor, placeAddress}
+use Rattle.choose.specs.declared.place.Place.{Place}
 use Rattle.demands.proofs.EditLaws.{IsOr, is-it, is-old, in-insert, in-remove, ResizedOr, is-resized, is-kept, in-resize, end-within}
 use Rattle.demands.proofs.KeepLaws.{tabled}
 use Rattle.demands.proofs.LongerLaws.{found-stands, From, from, room-less, less-whole, room-more, more-reach, Longer, longer}
-use Rattle.demands.proofs.PlaceRule.{mem-below, class-of-large, class-of-small, SpotIs, inside, outside, pos as goes-pos, spot-is, Goes, page-within, section-goes, end-goes}
+use Rattle.demands.proofs.PlaceRule.{mem-below, class-of-large, class-of-small, PlaceFound, inside, outside, pos as goes-pos, place-found, Goes, page-within, section-goes, end-goes}
 use Rattle.demands.proofs.ReleaseLaws.{lives-entry}
 use Rattle.demands.specs.Calls.{SoundSpace, livesOf}
 use Rattle.demands.specs.Places.{PlaceIs, in-section, at-the-end}
@@ -36,7 +36,7 @@ use Rattle.pieces.specs.declared.Piece.{Piece}
 use Rattle.pieces.specs.declared.Status.the-variants.{Live}
 use Rattle.rules.proofs.ChangeLaws.{insert-good, resize-good}
 use Rattle.rules.proofs.RemoveLaws.{remove-good}
-use Rattle.rules.specs.Edits.{insert, remove, resize}
+use Rattle.rules.specs.Editing.{insert, remove, resize}
 use Rattle.space.proofs.SettleLaws.{settled-room}
 use Rattle.space.specs.Answers.{notSound, unknownCode, zeroAsked, beyondLimit, tableFull, noRoomBehind, tooLittleLeft, entriesOf, Outcome, refusing, stateOf, settled}
 use Rattle.space.specs.Giving.{nameOf, entriesBehind, releasedAt, released, roomBehindb, growsBeyondb, extendedAt, extended, remainsb, shortenedAt, shortened}
@@ -186,17 +186,17 @@ module _ (sp : Space) (w : List ℕ) (s : SoundSpace sp w) where
     pub goes : Goes sp w s (classFor (sp .page) t n) n b
     pub changed : Changed sp w (insert (piece b n (Live (classFor (sp .page) t n))) (livesOf sp w)) (allocated sp t n w .outcome)
 
-  abbrev spot : ℕ → ℕ → Spot
-  spot t n = spotOf (sp .page) (classFor (sp .page) t n) n (entriesOf sp w)
+  abbrev chosen : ℕ → ℕ → Place
+  chosen t n = placeFor (sp .page) (classFor (sp .page) t n) n (entriesOf sp w)
 
   -- a place that does not make the file pass M is the rule's, and the piece fits there
-  spot-goes : (t n : ℕ) → 1 ≤ n → (q : Spot) → SpotIs sp w s (classFor (sp .page) t n) n q → beyondb sp n q ≡ false
-      → PlaceIs (sp .page) (sp .end) (classFor (sp .page) t n) n (entriesOf sp w) (spotAddress (sp .end) q)
-      × Goes sp w s (classFor (sp .page) t n) n (spotAddress (sp .end) q)
-  spot-goes t n some q (inside b h e f) g =
+  place-goes : (t n : ℕ) → 1 ≤ n → (q : Place) → PlaceFound sp w s (classFor (sp .page) t n) n q → beyondb sp n q ≡ false
+      → PlaceIs (sp .page) (sp .end) (classFor (sp .page) t n) n (entriesOf sp w) (placeAddress (sp .end) q)
+      × Goes sp w s (classFor (sp .page) t n) n (placeAddress (sp .end) q)
+  place-goes t n some q (inside b h e f) g =
       let k : Class = classFor (sp .page) t n in
       rw e (in-section h, section-goes sp w s k n b some (class-of-small (sp .page) t n) (class-of-large (sp .page) t n) h)
-  spot-goes t n some q (outside h e) g =
+  place-goes t n some q (outside h e) g =
       let k : Class = classFor (sp .page) t n in
       let l : up (sp .page) (sp .end + n) ≤ sp .limit = ltb-false (sp .limit) (up (sp .page) (sp .end + n)) (rw e at g) in
       rw e (at-the-end h refl, end-goes sp w s k n (sp .end) some (class-of-small (sp .page) t n) (class-of-large (sp .page) t n) refl l)
@@ -214,9 +214,9 @@ module _ (sp : Space) (w : List ℕ) (s : SoundSpace sp w) where
   -- what an accepted allocation has passed
   record Put (t n : ℕ) : Type 0 where
     some : 1 ≤ n
-    not-beyond : beyondb sp n (spot t n) ≡ false
+    not-beyond : beyondb sp n (chosen t n) ≡ false
     is : allocated sp t n w
-        ≡ placedAt (spotAddress (sp .end) (spot t n)) (settled sp w (insert (piece (spotAddress (sp .end) (spot t n)) n (Live (classFor (sp .page) t n))) (livesOf sp w)))
+        ≡ placedAt (placeAddress (sp .end) (chosen t n)) (settled sp w (insert (piece (placeAddress (sp .end) (chosen t n)) n (Live (classFor (sp .page) t n))) (livesOf sp w)))
 
   put : (t n : ℕ) → allocated sp t n w .outcome .refusal ≡ 0 → Put t n
   unfolding allocated placed
@@ -246,9 +246,9 @@ module _ (sp : Space) (w : List ℕ) (s : SoundSpace sp w) where
   allocated-put t n e =
       let p = put t n e in
       let k : Class = classFor (sp .page) t n in
-      let b : ℕ = spotAddress (sp .end) (spot t n) in
+      let b : ℕ = placeAddress (sp .end) (chosen t n) in
       let ps : List Piece = insert (piece b n (Live k)) (livesOf sp w) in
-      let g = spot-goes t n (p .some) (spot t n) (spot-is sp w s k n) (p .not-beyond) in
+      let g = place-goes t n (p .some) (chosen t n) (place-found sp w s k n) (p .not-beyond) in
       let o : allocated sp t n w .outcome ≡ settled sp w ps = ap (λ (v : Placed). v .outcome) (p .is) ∙ placed-outcome b (settled sp w ps) in
       let e1 : settled sp w ps .refusal ≡ 0 = sym (ap (λ (v : Outcome). v .refusal) o) ∙ e in
       let a : allocated sp t n w .address ≡ b = ap (λ (v : Placed). v .address) (p .is) ∙ placed-address b (settled sp w ps) e1 in

@@ -19,7 +19,7 @@ use Rattle.demands.specs.Demands.{acceptedAll, AnyOrder, TwoOrders}
 use Rattle.pieces.specs.Words.{table}
 use Rattle.pieces.specs.declared.Piece.{Piece}
 use Rattle.rules.proofs.RemoveLaws.{remove-swap}
-use Rattle.rules.specs.Edits.{Name, remove}
+use Rattle.rules.specs.Editing.{Name, remove}
 use Rattle.space.specs.Answers.{entriesOf, stateOf, Outcome}
 use Rattle.space.specs.Giving.{released}
 use Rattle.space.specs.declared.Space.{Space}

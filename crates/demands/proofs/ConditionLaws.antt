@@ -13,11 +13,11 @@ use native.Mathlib.Omega.{arith}
 use lib.Dec.{leb, ltb, eqb}
 use borrow.Author.Tests.{le-leb, lt-ltb, eq-eqb, ne-eqb, leb-true, ltb-true, eqb-true}
 use Rattle.choose.proofs.BestLaws.{entry-among}
-use Rattle.choose.specs.Spot.{spotOf, spotAddress}
-use Rattle.choose.specs.declared.spot.Spot.{Spot}
+use Rattle.choose.specs.Place.{placeFor, placeAddress}
+use Rattle.choose.specs.declared.place.Place.{Place}
 use Rattle.demands.proofs.AcceptedLaws.{pos, here}
 use Rattle.demands.proofs.LongerLaws.{Stands, stands-here, stands-later, found-stands}
-use Rattle.demands.proofs.PlaceRule.{SpotIs, inside, outside, spot-is, mem-below}
+use Rattle.demands.proofs.PlaceRule.{PlaceFound, inside, outside, place-found, mem-below}
 use Rattle.demands.proofs.Placing.{section-then-none, one-place}
 use Rattle.demands.specs.Calls.{SoundSpace, IsLive, livesOf}
 use Rattle.demands.specs.Places.{PlaceIs, in-section, at-the-end}
@@ -33,7 +33,7 @@ use Rattle.pieces.specs.declared.Class.{Class}
 use Rattle.pieces.specs.declared.Piece.{Piece}
 use Rattle.pieces.specs.declared.Status.the-variants.{Live, Free}
 use Rattle.pieces.specs.declared.Status.{Status}
-use Rattle.rules.specs.Edits.{insert}
+use Rattle.rules.specs.Editing.{insert}
 use Rattle.space.specs.Answers.{soundb, entriesOf}
 use Rattle.space.specs.Giving.{nameOf, entriesBehind, smallRoomb, largeRoomb, roomBehindb, growsBeyondb, remainsb}
 use Rattle.space.specs.Listing.{managerb, largeCode}
@@ -106,31 +106,31 @@ test-zero z m (no-change e) = go (eqb z 0)
 -- ---- 5 and 6, of an allocation
 
 module _ (sp : Space) (w : List ℕ) (s : SoundSpace sp w) (c : Class) (n : ℕ) where
-  abbrev pub spot : Spot
-  spot = spotOf (sp .page) c n (entriesOf sp w)
+  abbrev pub chosen : Place
+  chosen = placeFor (sp .page) c n (entriesOf sp w)
 
-  pub beyond-end : (q : Spot) → SpotIs sp w s c n q → beyondb sp n q ≡ true → NoPlace sp w c n
+  pub beyond-end : (q : Place) → PlaceFound sp w s c n q → beyondb sp n q ≡ true → NoPlace sp w c n
   beyond-end q (inside b i e f) g = absurd (not-both (and-left (atEndb q) (ltb (sp .limit) (up (sp .page) (sp .end + n))) g) f)
   beyond-end q (outside i e) g =
       (i, ltb-true (sp .limit) (up (sp .page) (sp .end + n)) (and-right (atEndb q) (ltb (sp .limit) (up (sp .page) (sp .end + n))) g))
 
-  pub end-beyond : (q : Spot) → SpotIs sp w s c n q → NoPlace sp w c n → beyondb sp n q ≡ true
+  pub end-beyond : (q : Place) → PlaceFound sp w s c n q → NoPlace sp w c n → beyondb sp n q ≡ true
   end-beyond q (inside b i e f) g = absurd (section-then-none i (g .0))
   end-beyond q (outside i e) g = rw (e, lt-ltb (sp .limit) (up (sp .page) (sp .end + n)) (g .1))
 
-  -- the spot is the rule's place
-  spot-place : (q : Spot) → SpotIs sp w s c n q → PlaceIs (sp .page) (sp .end) c n (entriesOf sp w) (spotAddress (sp .end) q)
-  spot-place q (inside b i e f) = rw e (in-section i)
-  spot-place q (outside i e) = rw e (at-the-end i refl)
+  -- the place that was found is the rule's
+  found-place : (q : Place) → PlaceFound sp w s c n q → PlaceIs (sp .page) (sp .end) c n (entriesOf sp w) (placeAddress (sp .end) q)
+  found-place q (inside b i e f) = rw e (in-section i)
+  found-place q (outside i e) = rw e (at-the-end i refl)
 
   abbrev pub there : ℕ
-  there = spotAddress (sp .end) spot
+  there = placeAddress (sp .end) chosen
 
   abbrev pub placing-it : ℕ → List Piece
   placing-it b = insert (piece b n (Live c)) (livesOf sp w)
 
   pub there-is : PlaceIs (sp .page) (sp .end) c n (entriesOf sp w) there
-  there-is = spot-place spot (spot-is sp w s c n)
+  there-is = found-place chosen (place-found sp w s c n)
 
   pub too-many : FullThere sp w c n → TooMany sp w (placing-it there)
   too-many h = rw (one-place (pos sp w s) (h .is) there-is) at (h .full)

@@ -22,7 +22,7 @@ use Rattle.pieces.specs.Pieces.{piece, behind, classOf}
 use Rattle.pieces.specs.declared.Class.{Class}
 use Rattle.pieces.specs.declared.Piece.{Piece}
 use Rattle.rules.proofs.RemoveLaws.{named-address}
-use Rattle.rules.specs.Edits.{Name, names, insert, remove, resize}
+use Rattle.rules.specs.Editing.{Name, names, insert, remove, resize}
 use Rattle.table.proofs.GapLaws.{apart-le}
 use Rattle.table.specs.Fill.{lastEnd, endOf, GoodFrom, next}
 

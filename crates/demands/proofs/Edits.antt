@@ -25,7 +25,7 @@ use Rattle.pieces.specs.Pieces.{piece}
 use Rattle.pieces.specs.declared.Piece.{Piece}
 use Rattle.pieces.specs.declared.Status.the-variants.{Live}
 use Rattle.rules.proofs.RemoveLaws.{named-address, named-size}
-use Rattle.rules.specs.Edits.{names}
+use Rattle.rules.specs.Editing.{names}
 use Rattle.space.specs.Answers.{notSound, zeroAsked, entriesOf, Outcome}
 use Rattle.space.specs.Giving.{nameOf, extendedAt, extended}
 use Rattle.space.specs.Placing.{classFor, allocated}

@@ -15,9 +15,9 @@ use lib.Dec.{eqb}
 use lib.ListN.{length}
 use borrow.Author.Tests.{lt-ltb, eq-eqb, ltb-true, eqb-true}
 use Rattle.choose.proofs.BestLaws.{entry-among}
-use Rattle.demands.proofs.ConditionLaws.{opening-ranges, sound-test, type-test, test-type, manager-test, test-manager, zero-test, test-zero, spot, beyond-end, end-beyond, there, there-is, placing-it, too-many, room, has-room, the-room, has-left, the-left, Beyond, grows-last, last-grows}
+use Rattle.demands.proofs.ConditionLaws.{opening-ranges, sound-test, type-test, test-type, manager-test, test-manager, zero-test, test-zero, chosen, beyond-end, end-beyond, there, there-is, placing-it, too-many, room, has-room, the-room, has-left, the-left, Beyond, grows-last, last-grows}
 use Rattle.demands.proofs.KeepLaws.{sound-true}
-use Rattle.demands.proofs.PlaceRule.{spot-is}
+use Rattle.demands.proofs.PlaceRule.{place-found}
 use Rattle.demands.proofs.ReleaseLaws.{entry-is}
 use Rattle.demands.specs.Calls.{Call, opens, allocates, releases, extends, shortens, called, SoundSpace, IsLive, livesOf}
 use Rattle.demands.specs.Demands.{Exactly}
@@ -31,7 +31,7 @@ use Rattle.pages.specs.Pages.{up}
 use Rattle.pieces.specs.Pieces.{classOf}
 use Rattle.pieces.specs.declared.Class.{Class}
 use Rattle.pieces.specs.declared.Piece.{Piece}
-use Rattle.rules.specs.Edits.{remove, resize}
+use Rattle.rules.specs.Editing.{remove, resize}
 use Rattle.space.proofs.OpenLaws.{opened-refused, opened-done}
 use Rattle.space.specs.Answers.{notSound, unknownCode, zeroAsked, beyondLimit, tableFull, notLive, noRoomBehind, tooLittleLeft, sliceTooShort, soundb, entriesOf, Outcome, refusing, settled}
 use Rattle.space.specs.Giving.{nameOf, remainsb, releasedAt, released, extendedAt, extended, shortenedAt, shortened}
@@ -176,12 +176,12 @@ module _ (sp : Space) (w : List ℕ) (s : SoundSpace sp w) (c : Class) (n : ℕ)
       go (given h e) = given (record { place = there sp w s c n; is = there-is sp w s c n; full = h }) e
       go (passed-on h e) = passed-on (λ l. h (too-many sp w s c n l)) e
 
-  placed-row : Given (placed sp c n w (spot sp w s c n) .outcome .refusal) beyondLimit (NoPlace sp w c n)
-      (Given (placed sp c n w (spot sp w s c n) .outcome .refusal) tableFull (FullThere sp w c n) (placed sp c n w (spot sp w s c n) .outcome .refusal ≡ 0))
+  placed-row : Given (placed sp c n w (chosen sp w s c n) .outcome .refusal) beyondLimit (NoPlace sp w c n)
+      (Given (placed sp c n w (chosen sp w s c n) .outcome .refusal) tableFull (FullThere sp w c n) (placed sp c n w (chosen sp w s c n) .outcome .refusal ≡ 0))
   unfolding placed refusingPlace placedAt
   placed-row =
-      first placeRefusal beyondLimit _ _ refl (λ r. Given r tableFull (FullThere sp w c n) (r ≡ 0)) _ (beyond-end sp w s c n _ (spot-is sp w s c n))
-      (end-beyond sp w s c n _ (spot-is sp w s c n)) (λ e. full-row)
+      first placeRefusal beyondLimit _ _ refl (λ r. Given r tableFull (FullThere sp w c n) (r ≡ 0)) _ (beyond-end sp w s c n _ (place-found sp w s c n))
+      (end-beyond sp w s c n _ (place-found sp w s c n)) (λ e. full-row)
 
 allocated-row : (sp : Space) (w : List ℕ) (t n : ℕ) → Row (allocates t n) sp w (allocated sp t n w .outcome .refusal)
 unfolding allocated refusingPlace

@@ -1,7 +1,7 @@
 -- The place that an allocation chooses is the rule's place, and a piece fits there.
 --
---   SpotIs k n q         the place q is in a section, or at the end because no section has one
---   spot-is              what is chosen is that
+--   PlaceFound k n q         the place q is in a section, or at the end because no section has one
+--   place-found              what is chosen is that
 --   Goes k n b           n bytes of class k may be put at b: among the live pieces, by their class, and within M
 --   section-goes         into a section; end-goes at the end
 --   class-of-large, class-of-small    how many bytes a request of a class has
@@ -16,11 +16,11 @@ use lib.Dec.{eqb}
 use borrow.Author.Tests.{eqb-true, eqb-false}
 use Rattle.choose.proofs.BestLaws.{entry-among, small-place, large-place}
 use Rattle.choose.specs.Choose.{fitsIn, best, Best, FitsSmall, FitsLarge}
-use Rattle.choose.specs.Spot.{inLarge, inSmall, asPage, largeSpot, smallSpot, spotOf, spotAddress}
-use Rattle.choose.specs.declared.Place.the-variants.{At, Nothing}
-use Rattle.choose.specs.declared.Place.{Place}
-use Rattle.choose.specs.declared.spot.Spot.the-variants.{End}
-use Rattle.choose.specs.declared.spot.Spot.{Spot}
+use Rattle.choose.specs.Place.{inLarge, inSmall, asPage, largePlaceFor, smallPlaceFor, placeFor, placeAddress}
+use Rattle.choose.specs.declared.Chosen.the-variants.{At, Nothing}
+use Rattle.choose.specs.declared.Chosen.{Chosen}
+use Rattle.choose.specs.declared.place.Place.the-variants.{End}
+use Rattle.choose.specs.declared.place.Place.{Place}
 use Rattle.demands.specs.Calls.{SoundSpace}
 use Rattle.demands.specs.Places.{NoneFits, InSection, in-small-entry, in-page, in-large-entry, NoSection}
 use Rattle.pages.proofs.Numbers.{split}
@@ -64,45 +64,45 @@ module _ (sp : Space) (w : List ℕ) (s : SoundSpace sp w) where
   pub pos : 0 < sp .page
   pos = page-pos (s .ranges .page)
 
-  pub data SpotIs (k : Class) (n : ℕ) (q : Spot) : Type 0 where
-    inside : (b : ℕ) → InSection (sp .page) k n (entriesOf sp w) b → spotAddress (sp .end) q ≡ b → atEndb q ≡ false → SpotIs k n q
-    outside : NoSection (sp .page) k n (entriesOf sp w) → q ≡ End → SpotIs k n q
+  pub data PlaceFound (k : Class) (n : ℕ) (q : Place) : Type 0 where
+    inside : (b : ℕ) → InSection (sp .page) k n (entriesOf sp w) b → placeAddress (sp .end) q ≡ b → atEndb q ≡ false → PlaceFound k n q
+    outside : NoSection (sp .page) k n (entriesOf sp w) → q ≡ End → PlaceFound k n q
 
   first-border : (x : Piece) → FirstBorder (sp .page) (x .address) (up (sp .page) (x .address))
   first-border x = borders (sp .page) (x .address) pos .up-is
 
-  large-is : (n : ℕ) (r : Place) → Best (FitsLarge (sp .page) n) (entriesOf sp w) r → SpotIs Large n (inLarge (sp .page) r)
+  large-is : (n : ℕ) (r : Chosen) → Best (FitsLarge (sp .page) n) (entriesOf sp w) r → PlaceFound Large n (inLarge (sp .page) r)
   large-is n (At i x) h = inside (up (sp .page) (x .address)) (in-large-entry refl h (first-border x)) refl refl
   large-is n Nothing h =
       outside (record { no-small-entry = λ t. absurd (large-small t refl); no-page = λ t. absurd (large-small t refl); no-large-entry = λ e. h }) refl
 
-  page-is : {k : Class} (n : ℕ) → Small k → NoneFits (FitsSmall k n) (entriesOf sp w) → (r : Place)
-      → Best (FitsLarge (sp .page) (sp .page)) (entriesOf sp w) r → SpotIs k n (asPage (inLarge (sp .page) r))
+  page-is : {k : Class} (n : ℕ) → Small k → NoneFits (FitsSmall k n) (entriesOf sp w) → (r : Chosen)
+      → Best (FitsLarge (sp .page) (sp .page)) (entriesOf sp w) r → PlaceFound k n (asPage (inLarge (sp .page) r))
   page-is n t f (At i x) h = inside (up (sp .page) (x .address)) (in-page t f h (first-border x)) refl refl
   page-is n t f Nothing h =
       outside (record { no-small-entry = λ u. f; no-page = λ u. h; no-large-entry = λ e. absurd (small-large t e) }) refl
 
-  small-is : {k : Class} (n : ℕ) (q : Spot) → Small k → (NoneFits (FitsSmall k n) (entriesOf sp w) → SpotIs k n q) → (r : Place)
-      → Best (FitsSmall k n) (entriesOf sp w) r → SpotIs k n (inSmall q r)
+  small-is : {k : Class} (n : ℕ) (q : Place) → Small k → (NoneFits (FitsSmall k n) (entriesOf sp w) → PlaceFound k n q) → (r : Chosen)
+      → Best (FitsSmall k n) (entriesOf sp w) r → PlaceFound k n (inSmall q r)
   small-is n q t f (At i x) h = inside (x .address) (in-small-entry t h refl) refl refl
   small-is n q t f Nothing h = f h
 
   best-large : (n : ℕ) → Best (FitsLarge (sp .page) n) (entriesOf sp w) (best (fitsIn (sp .page) Large n) 0 Nothing (entriesOf sp w))
   best-large n = large-place (sp .page) pos n (sp .end) 0 (entriesOf sp w) (s .rules .filled) (s .rules .tiling) .is
 
-  small-spot-is : (k : Class) (n : ℕ) → Small k → SpotIs k n (smallSpot (sp .page) k n (entriesOf sp w))
-  unfolding smallSpot largeSpot
-  small-spot-is k n t =
-      small-is n (asPage (largeSpot (sp .page) (sp .page) (entriesOf sp w))) t
+  small-place-found : (k : Class) (n : ℕ) → Small k → PlaceFound k n (smallPlaceFor (sp .page) k n (entriesOf sp w))
+  unfolding smallPlaceFor largePlaceFor
+  small-place-found k n t =
+      small-is n (asPage (largePlaceFor (sp .page) (sp .page) (entriesOf sp w))) t
       (λ f. page-is n t f (best (fitsIn (sp .page) Large (sp .page)) 0 Nothing (entriesOf sp w)) (best-large (sp .page)))
       (best (fitsIn (sp .page) k n) 0 Nothing (entriesOf sp w))
       (small-place (sp .page) k t n (sp .end) 0 (entriesOf sp w) (s .rules .filled) (s .rules .tiling) .is)
 
-  pub spot-is : (k : Class) (n : ℕ) → SpotIs k n (spotOf (sp .page) k n (entriesOf sp w))
-  unfolding spotOf largeSpot
-  spot-is SmallMetadata n = small-spot-is SmallMetadata n metadata
-  spot-is SmallRaw n = small-spot-is SmallRaw n raw
-  spot-is Large n = large-is n (best (fitsIn (sp .page) Large n) 0 Nothing (entriesOf sp w)) (best-large n)
+  pub place-found : (k : Class) (n : ℕ) → PlaceFound k n (placeFor (sp .page) k n (entriesOf sp w))
+  unfolding placeFor largePlaceFor
+  place-found SmallMetadata n = small-place-found SmallMetadata n metadata
+  place-found SmallRaw n = small-place-found SmallRaw n raw
+  place-found Large n = large-is n (best (fitsIn (sp .page) Large n) 0 Nothing (entriesOf sp w)) (best-large n)
 
   -- ---- a piece fits there
 

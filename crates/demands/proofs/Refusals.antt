@@ -13,7 +13,7 @@ use mathlib.Core.Path.{_≡_, refl, ap}
 use lib.Dec.{eqb}
 use lib.ListN.{length, replicate}
 use borrow.Author.Tests.{eqb-true}
-use Rattle.choose.specs.declared.spot.Spot.{Spot}
+use Rattle.choose.specs.declared.place.Place.{Place}
 use Rattle.demands.specs.Calls.{Call, called, refusalsOf, listRefusals, handedBack, OnSpace, allocating, releasing, extending, shortening, opens, allocates, releases, extends, shortens}
 use Rattle.demands.specs.Demands.{Answered, accepted, refused, listOutcome, Refusals}
 use Rattle.find.specs.Find.{findLive}
@@ -74,7 +74,7 @@ opened-answered P M w = go (openingb P M (length w))
     go false = refused-answered here
 
 module _ (sp : Space) (w : List ℕ) where
-  placed-answered : (k : Class) (s : ℕ) (q : Spot) → Answered (refusalsOf (allocates 0 0)) sp w (placed sp k s w q .outcome)
+  placed-answered : (k : Class) (s : ℕ) (q : Place) → Answered (refusalsOf (allocates 0 0)) sp w (placed sp k s w q .outcome)
   unfolding placed placedAt
   placed-answered k s q = refusing-place _ _ (on (on (on here))) (settled-answered _ (on (on (on (on here)))))
 

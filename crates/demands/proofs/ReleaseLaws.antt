@@ -31,7 +31,7 @@ use Rattle.pieces.specs.declared.Status.the-variants.{Live, Free}
 use Rattle.pieces.specs.declared.Status.{Status}
 use Rattle.rules.proofs.CountLaws.{release-count}
 use Rattle.rules.proofs.RemoveLaws.{named-address, named-size}
-use Rattle.rules.specs.Edits.{Name, names, remove}
+use Rattle.rules.specs.Editing.{Name, names, remove}
 use Rattle.space.proofs.SettleLaws.{refusing-no, settled-room}
 use Rattle.space.specs.Answers.{notSound, entriesOf, stateOf, settled}
 use Rattle.space.specs.Giving.{releasedAt, released}

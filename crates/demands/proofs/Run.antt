@@ -6,7 +6,7 @@ use mathlib.Core.List.{List}
 use mathlib.Core.Path.{_≡_, refl, ap, _∙_}
 use lib.ListN.{length, replicate}
 use Rattle.choose.specs.Choose.{roomIn, fitsIn, bestOf, best}
-use Rattle.choose.specs.Spot.{largeSpot, smallSpot, spotOf}
+use Rattle.choose.specs.Place.{largePlaceFor, smallPlaceFor, placeFor}
 use Rattle.demands.specs.Calls.{called, ran}
 use Rattle.demands.specs.Demands.{TheRun}
 use Rattle.demands.specs.Run.{answered, played, callsOf, fiveSteps, twelveSteps, exchangedSteps, leftAfterFive, leftAfterTwelve, begun}
@@ -14,7 +14,7 @@ use Rattle.find.specs.Find.{namedb, findLive}
 use Rattle.pages.specs.Pages.{down, up}
 use Rattle.pieces.specs.Pieces.{statusOf}
 use Rattle.pieces.specs.Words.{entryAt, entries, words, table}
-use Rattle.rules.specs.Edits.{insert, remove, resize}
+use Rattle.rules.specs.Editing.{insert, remove, resize}
 use Rattle.space.specs.Answers.{Outcome, refusing, settled}
 use Rattle.space.specs.Giving.{releasedAt, released, smallRoomb, largeRoomb, roomBehindb, growsBeyondb, extendedAt, extended, remainsb, shortenedAt, shortened}
 use Rattle.space.specs.Opening.{openingb, opened}
@@ -40,7 +40,7 @@ record FromStart : Type 0 where
   exchanged-ends : ran (callsOf exchangedSteps) (start .state) (start .words) ≡ leftAfterTwelve
 
 from-start : FromStart
-unfolding down up statusOf entryAt entries words table lives free lo hi gap fillFrom fill lastEnd endOf tableLengthb rangesb kindsb zerosb shapeb besideb cutb entryb chainb localb roomIn fitsIn bestOf best largeSpot smallSpot spotOf namedb findLive insert remove resize refusing settled classFor refusingPlace placedAt placed allocated releasedAt released smallRoomb largeRoomb roomBehindb growsBeyondb extendedAt extended remainsb shortenedAt shortened called ran answered played callsOf
+unfolding down up statusOf entryAt entries words table lives free lo hi gap fillFrom fill lastEnd endOf tableLengthb rangesb kindsb zerosb shapeb besideb cutb entryb chainb localb roomIn fitsIn bestOf best largePlaceFor smallPlaceFor placeFor namedb findLive insert remove resize refusing settled classFor refusingPlace placedAt placed allocated releasedAt released smallRoomb largeRoomb roomBehindb growsBeyondb extendedAt extended remainsb shortenedAt shortened called ran answered played callsOf
 from-start = record { twelve = refl; after-five = refl; after-twelve = refl; exchanged = refl; exchanged-ends = refl }
 
 -- ---- the statement

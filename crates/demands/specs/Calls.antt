@@ -26,7 +26,7 @@ use Rattle.find.specs.Find.{Named}
 use Rattle.pieces.specs.Pieces.{piece}
 use Rattle.pieces.specs.declared.Piece.{Piece}
 use Rattle.pieces.specs.declared.Status.the-variants.{Live}
-use Rattle.rules.specs.Edits.{Name, insert, remove, resize}
+use Rattle.rules.specs.Editing.{Name, insert, remove, resize}
 use Rattle.space.specs.Answers.{entriesOf, Outcome, outOfRange, notSound, unknownCode, zeroAsked, beyondLimit, tableFull, notLive, noRoomBehind, tooLittleLeft, sliceTooShort}
 use Rattle.space.specs.Giving.{nameOf, released, extended, shortened}
 use Rattle.space.specs.Opening.{nowhere, opened}

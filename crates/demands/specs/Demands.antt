@@ -24,7 +24,7 @@ use Rattle.demands.specs.Run.{fiveSteps, twelveSteps, exchangedSteps, le
 use Rattle.pieces.specs.Words.{entryAt, table}
 use Rattle.pieces.specs.declared.Class.{Class}
 use Rattle.pieces.specs.declared.Piece.{Piece}
-use Rattle.rules.specs.Edits.{Name}
+use Rattle.rules.specs.Editing.{Name}
 use Rattle.space.specs.Answers.{notSound, noAddress, entriesOf, Outcome, stateOf}
 use Rattle.space.specs.Giving.{released, extended, shortened}
 use Rattle.space.specs.Listing.{ListOutcome, listed}

@@ -26,7 +26,7 @@ use Rattle.pieces.specs.declared.Class.the-variants.{Large}
 use Rattle.pieces.specs.declared.Class.{Class}
 use Rattle.pieces.specs.declared.Piece.{Piece}
 use Rattle.pieces.specs.declared.Status.the-variants.{Live, Free}
-use Rattle.rules.specs.Edits.{insert, remove, resize}
+use Rattle.rules.specs.Editing.{insert, remove, resize}
 use Rattle.space.specs.Answers.{outOfRange, notSound, unknownCode, zeroAsked, beyondLimit, tableFull, notLive, noRoomBehind, tooLittleLeft, sliceTooShort, entriesOf}
 use Rattle.space.specs.Giving.{nameOf}
 use Rattle.space.specs.Listing.{classOfManager, sections, pairWords, largeCode}

@@ -12,10 +12,10 @@ use native.Mathlib.Omega.{arith}
 use lib.ListN.{take, drop}
 use Rattle.choose.proofs.BestLaws.{best-place, fits-small, fits-large}
 use Rattle.choose.specs.Choose.{fitsIn, best, Best, FitsLarge}
-use Rattle.choose.specs.Spot.{inLarge, inSmall, asPage, largeSpot, smallSpot, spotOf, spotAddress}
-use Rattle.choose.specs.declared.Place.the-variants.{At, Nothing}
-use Rattle.choose.specs.declared.Place.{Place}
-use Rattle.choose.specs.declared.spot.Spot.{Spot}
+use Rattle.choose.specs.Place.{inLarge, inSmall, asPage, largePlaceFor, smallPlaceFor, placeFor, placeAddress}
+use Rattle.choose.specs.declared.Chosen.the-variants.{At, Nothing}
+use Rattle.choose.specs.declared.Chosen.{Chosen}
+use Rattle.choose.specs.declared.place.Place.{Place}
 use Rattle.literal.proofs.AllocateLaws.{in-place-split, Replaces, in-place-chain, Grant, grant-large, grant-page, into-large, at-end, into-small}
 use Rattle.literal.proofs.ChainLaws.{lives-only-free, file-of-chain}
 use Rattle.literal.specs.Literal.{inPlaceOf, intoLarge, atEnd, largeRule, largePiece, intoSmall, smallPage, allocatedSmall, allocated}
@@ -29,7 +29,7 @@ use Rattle.pieces.specs.declared.Piece.{Piece}
 use Rattle.pieces.specs.declared.Status.the-variants.{Live, Free}
 use Rattle.pieces.specs.declared.Status.{Status}
 use Rattle.rules.proofs.SpliceLaws.{lives-append, insert-at}
-use Rattle.rules.specs.Edits.{insert}
+use Rattle.rules.specs.Editing.{insert}
 use Rattle.table.proofs.Canon.{canonical}
 use Rattle.table.proofs.Chain.{Chain}
 use Rattle.table.proofs.ChainLaws.{lives-free}
@@ -104,8 +104,8 @@ module _ (P : ℕ) (pos : 0 < P) where
         now : lives (es ++ (new E ++ rest)) ≡ lives es ++ (p E ∷ [])
         now = lives-append es (new E ++ rest) ∙ ap (λ (l : List Piece). lives es ++ l) only
 
-    rule-placed : (r : Place) → Best (λ x. fitsIn P Large q x ≡ true) es r
-        → FileOf P (largeRule P E q new es (inLarge P r)) (insert (p (spotAddress E (inLarge P r))) (lives es))
+    rule-placed : (r : Chosen) → Best (λ x. fitsIn P Large q x ≡ true) es r
+        → FileOf P (largeRule P E q new es (inLarge P r)) (insert (p (placeAddress E (inLarge P r))) (lives es))
     unfolding largeRule
     rule-placed Nothing h = rule-at-end
     rule-placed (At i x) h =
@@ -121,26 +121,26 @@ module _ (P : ℕ) (pos : 0 < P) where
   chosen {E} {es} c k s = let h = rules-of P pos c in best-place (fitsIn P k s) E 0 es (h .filled) (h .tiling) .is
 
   large-chain : {E s : ℕ} {es : List Piece} → Chain P E es → P ≤ s → AllocatingIn P E Large s es
-  unfolding allocated spotOf largeSpot
+  unfolding allocated placeFor largePlaceFor
   large-chain {E} {s} {es} c h =
       rule-placed c s (largePiece s) (λ b. piece b s (Live Large)) (Live Large) (λ b bo. grant-large P pos bo h) (lives-large-piece s)
       (best (fitsIn P Large s) 0 Nothing es) (chosen c Large s)
 
   module _ {E s : ℕ} {k : Class} {es : List Piece} (c : Chain P E es) (t : Small k) (some : 0 < s) (less : s < P) where
-    abbrev SmallDone : Spot → Type 0
-    SmallDone q = FileOf P (allocatedSmall P E k s es q) (insert (piece (spotAddress E q) s (Live k)) (lives es))
+    abbrev SmallDone : Place → Type 0
+    SmallDone q = FileOf P (allocatedSmall P E k s es q) (insert (piece (placeAddress E q) s (Live k)) (lives es))
 
-    page-rule : (r : Place) → Best (λ x. fitsIn P Large P x ≡ true) es r
-        → FileOf P (largeRule P E P (smallPage P k s) es (inLarge P r)) (insert (piece (spotAddress E (inLarge P r)) s (Live k)) (lives es))
+    page-rule : (r : Chosen) → Best (λ x. fitsIn P Large P x ≡ true) es r
+        → FileOf P (largeRule P E P (smallPage P k s) es (inLarge P r)) (insert (piece (placeAddress E (inLarge P r)) s (Live k)) (lives es))
     page-rule =
         rule-placed c P (smallPage P k s) (λ b. piece b s (Live k)) (Free k) (λ b bo. grant-page P pos bo t some less) (lives-small-page P k s)
 
-    page-placed : (r : Place) → Best (λ x. fitsIn P Large P x ≡ true) es r → SmallDone (asPage (inLarge P r))
+    page-placed : (r : Chosen) → Best (λ x. fitsIn P Large P x ≡ true) es r → SmallDone (asPage (inLarge P r))
     unfolding allocatedSmall largeRule
     page-placed Nothing h = page-rule Nothing h
     page-placed (At i x) h = page-rule (At i x) h
 
-    small-placed : (q : Spot) → SmallDone q → (r : Place) → Best (λ x. fitsIn P k s x ≡ true) es r → SmallDone (inSmall q r)
+    small-placed : (q : Place) → SmallDone q → (r : Chosen) → Best (λ x. fitsIn P k s x ≡ true) es r → SmallDone (inSmall q r)
     unfolding allocatedSmall
     small-placed q d Nothing h = d
     small-placed q d (At i x) h =
@@ -148,14 +148,14 @@ module _ (P : ℕ) (pos : 0 < P) where
         replaced (intoSmall k s) (piece (x .address) s (Live k)) pos c (entry-as (f .free) (h .entry))
         (into-small P pos t some (f .room)) (lives-into-small k s (piece (x .address) (x .size) (Free k)))
 
-    small-chain : SmallDone (smallSpot P k s es)
-    unfolding smallSpot largeSpot
+    small-chain : SmallDone (smallPlaceFor P k s es)
+    unfolding smallPlaceFor largePlaceFor
     small-chain =
-        small-placed (asPage (largeSpot P P es)) (page-placed (best (fitsIn P Large P) 0 Nothing es) (chosen c Large P))
+        small-placed (asPage (largePlaceFor P P es)) (page-placed (best (fitsIn P Large P) 0 Nothing es) (chosen c Large P))
         (best (fitsIn P k s) 0 Nothing es) (chosen c k s)
 
   pub allocated-chain : {E : ℕ} {k : Class} {s : ℕ} {es : List Piece} → Chain P E es → Request P k s → AllocatingIn P E k s es
-  unfolding allocated spotOf
+  unfolding allocated placeFor
   allocated-chain {k = SmallMetadata} c r = small-chain c metadata (r .some) (r .small metadata)
   allocated-chain {k = SmallRaw} c r = small-chain c raw (r .some) (r .small raw)
   allocated-chain {k = Large} c r = large-chain c (r .large refl)

@@ -16,8 +16,8 @@ use Rattle.pieces.specs.declared.Piece.{Piece}
 use Rattle.pieces.specs.Pieces.{piece}
 use Rattle.table.specs.Fill.{free}
 use Rattle.choose.specs.Choose.{roomIn, fitsIn, bestOf, best}
-use Rattle.choose.specs.Spot.{largeSpot, smallSpot, spotOf}
-use Rattle.rules.specs.Edits.{Name}
+use Rattle.choose.specs.Place.{largePlaceFor, smallPlaceFor, placeFor}
+use Rattle.rules.specs.Editing.{Name}
 use Rattle.literal.specs.Literal.{File, atEnd, largeRule, smallPage, allocatedSmall, allocated}
 use Rattle.literal.specs.Literal.{merges, mergedBefore, mergedBehind, merged, emptied, cut, releasedAt, releasedFrom, released}
 
@@ -41,8 +41,8 @@ abbrev afterTen : List Piece
 afterTen =
     four ++ (piece 1024 724 (Live Large) ∷ piece 1748 300 (Free Large) ∷ piece 2048 10 (Live SmallMetadata) ∷ piece 2058 502 (Free SmallMetadata) ∷ [])
 
-step-five : allocated 512 2048 SmallMetadata 10 afterFour (spotOf 512 SmallMetadata 10 afterFour) ≡ file afterFive 2560
-unfolding allocated allocatedSmall largeRule atEnd smallPage free up spotOf smallSpot largeSpot best bestOf fitsIn roomIn
+step-five : allocated 512 2048 SmallMetadata 10 afterFour (placeFor 512 SmallMetadata 10 afterFour) ≡ file afterFive 2560
+unfolding allocated allocatedSmall largeRule atEnd smallPage free up placeFor smallPlaceFor largePlaceFor best bestOf fitsIn roomIn
 step-five = refl
 
 step-six : released 512 2560 (name 1024 700) afterFive

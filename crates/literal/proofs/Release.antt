@@ -25,7 +25,7 @@ use Rattle.pieces.specs.declared.Piece.{Piece}
 use Rattle.pieces.specs.declared.Status.the-variants.{Live, Free}
 use Rattle.pieces.specs.declared.Status.{Status}
 use Rattle.rules.proofs.SpliceLaws.{remove-at}
-use Rattle.rules.specs.Edits.{Name, names, remove}
+use Rattle.rules.specs.Editing.{Name, names, remove}
 use Rattle.table.proofs.Canon.{canonical}
 use Rattle.table.proofs.Chain.{Entry, ChainFrom, stop, step, Chain}
 use Rattle.table.proofs.ChainLaws.{free-chain, chain-border-end}

@@ -1,5 +1,5 @@
 -- Document 01's rules for allocating and releasing, read literally: steps over the entries es of the table of a file that ends at E. What
--- stands in quotes is document 01's. Which place a request is given is said in choose's Spot.antt; `free c a b`, the free entry of class c
+-- stands in quotes is document 01's. Which place a request is given is said in choose's Place.antt; `free c a b`, the free entry of class c
 -- from a to b if there is a byte between them, in table's Fill.antt.
 --
 --   File                       the entries of the table and the end of the file
@@ -47,9 +47,9 @@ use Rattle.pieces.specs.declared.Status.the-variants.{Live, Free}
 use Rattle.pieces.specs.declared.Piece.{Piece}
 use Rattle.pieces.specs.Pieces.{piece, behind, classOf, smallb, freeb, sameClass}
 use Rattle.table.specs.Fill.{free}
-use Rattle.choose.specs.declared.spot.Spot.{Spot}
-use Rattle.choose.specs.declared.spot.Spot.the-variants.{Section, Page, End}
-use Rattle.rules.specs.Edits.{Name, names}
+use Rattle.choose.specs.declared.place.Place.{Place}
+use Rattle.choose.specs.declared.place.Place.the-variants.{Section, Page, End}
+use Rattle.rules.specs.Editing.{Name, names}
 
 pub record File : Type 0 where
   pub entries : List Piece
@@ -74,7 +74,7 @@ atEnd P E s new es =
       end = E + up P s;
     }
 
-unfoldable pub largeRule : ℕ → ℕ → ℕ → (ℕ → List Piece) → List Piece → Spot → File
+unfoldable pub largeRule : ℕ → ℕ → ℕ → (ℕ → List Piece) → List Piece → Place → File
 largeRule P E s new es (Section i b) = record { entries = inPlaceOf i (intoLarge b s (new b)) es; end = E }
 largeRule P E s new es (Page i b) = record { entries = inPlaceOf i (intoLarge b s (new b)) es; end = E }
 largeRule P E s new es End = atEnd P E s (new E) es
@@ -93,12 +93,12 @@ unfoldable pub smallPage : ℕ → Class → ℕ → ℕ → List Piece
 smallPage P k s b = piece b s (Live k) ∷ free k (b + s) (b + P)
 
 -- 'If none fits, one page is obtained by the large rule for a request of P.'
-unfoldable pub allocatedSmall : ℕ → ℕ → Class → ℕ → List Piece → Spot → File
+unfoldable pub allocatedSmall : ℕ → ℕ → Class → ℕ → List Piece → Place → File
 allocatedSmall P E k s es (Section i b) = record { entries = inPlaceOf i (intoSmall k s) es; end = E }
 allocatedSmall P E k s es (Page i b) = largeRule P E P (smallPage P k s) es (Page i b)
 allocatedSmall P E k s es End = largeRule P E P (smallPage P k s) es End
 
-unfoldable pub allocated : ℕ → ℕ → Class → ℕ → List Piece → Spot → File
+unfoldable pub allocated : ℕ → ℕ → Class → ℕ → List Piece → Place → File
 allocated P E SmallMetadata s es q = allocatedSmall P E SmallMetadata s es q
 allocated P E SmallRaw s es q = allocatedSmall P E SmallRaw s es q
 allocated P E Large s es q = largeRule P E s (largePiece s) es q

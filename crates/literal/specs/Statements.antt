@@ -20,8 +20,8 @@ use Rattle.pieces.specs.Pieces.{piece, Small}
 use Rattle.pieces.specs.Words.{entries}
 use Rattle.table.specs.Fill.{lives, fill, endOf}
 use Rattle.table.specs.Sound.{Sound}
-use Rattle.choose.specs.Spot.{spotOf, spotAddress}
-use Rattle.rules.specs.Edits.{Name, names, insert, remove}
+use Rattle.choose.specs.Place.{placeFor, placeAddress}
+use Rattle.rules.specs.Editing.{Name, names, insert, remove}
 use Rattle.literal.specs.Literal.{File, allocated, released}
 
 pub record Request (P : ℕ) (k : Class) (s : ℕ) : Type 0 where
@@ -35,8 +35,8 @@ pub record FileOf (P : ℕ) (f : File) (ps : List Piece) : Type 0 where
 
 abbrev pub AllocatingIn : ℕ → ℕ → Class → ℕ → List Piece → Type 0
 AllocatingIn P E k s es =
-    let q = spotOf P k s es in
-    FileOf P (allocated P E k s es q) (insert (piece (spotAddress E q) s (Live k)) (lives es))
+    let q = placeFor P k s es in
+    FileOf P (allocated P E k s es q) (insert (piece (placeAddress E q) s (Live k)) (lives es))
 
 abbrev pub Allocating : Type 0
 Allocating =

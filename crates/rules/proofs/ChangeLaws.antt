@@ -17,7 +17,7 @@ use Rattle.pieces.specs.declared.Class.{Class}
 use Rattle.pieces.specs.declared.Piece.{Piece}
 use Rattle.pieces.specs.declared.Status.the-variants.{Live, Free}
 use Rattle.pieces.specs.declared.Status.{Status}
-use Rattle.rules.specs.Edits.{insert, resize}
+use Rattle.rules.specs.Editing.{insert, resize}
 use Rattle.table.proofs.Build.{large-apart}
 use Rattle.table.proofs.Canon.{canon, live-apart, live-whole, apart-widen}
 use Rattle.table.proofs.Chain.{ChainFrom, stop, step}

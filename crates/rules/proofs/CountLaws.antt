@@ -22,7 +22,7 @@ use Rattle.pieces.specs.declared.Class.{Class}
 use Rattle.pieces.specs.declared.Piece.{Piece}
 use Rattle.pieces.specs.declared.Status.the-variants.{Live}
 use Rattle.rules.proofs.RemoveLaws.{remove-good, apart-over}
-use Rattle.rules.specs.Edits.{Name, names, remove}
+use Rattle.rules.specs.Editing.{Name, names, remove}
 use Rattle.table.proofs.Build.{Low, High, low, high}
 use Rattle.table.proofs.GapLaws.{free-none, free-cons, lo-small, lo-large, hi-small, gap-is, apart-le}
 use Rattle.table.specs.Fill.{free, lo, hi, gap, fillFrom, fill, Whole, Apart, border-between, one-family, GoodFrom, none, next, Good}

@@ -18,7 +18,7 @@ use Rattle.pieces.specs.Pieces.{piece}
 use Rattle.pieces.specs.declared.Class.{Class}
 use Rattle.pieces.specs.declared.Piece.{Piece}
 use Rattle.pieces.specs.declared.Status.the-variants.{Live}
-use Rattle.rules.specs.Edits.{Name, names, remove}
+use Rattle.rules.specs.Editing.{Name, names, remove}
 use Rattle.table.proofs.GapLaws.{apart-le}
 use Rattle.table.specs.Fill.{Apart, border-between, one-family, GoodFrom, none, next}
 

@@ -21,7 +21,7 @@ use Rattle.pieces.specs.declared.Status.the-variants.{Live, Free}
 use Rattle.pieces.specs.declared.Status.{Status}
 use Rattle.rules.proofs.RemoveLaws.{named-address}
 use Rattle.rules.specs.Between.{frontFrom, lastClass, closing}
-use Rattle.rules.specs.Edits.{Name, names, insert, remove, resize}
+use Rattle.rules.specs.Editing.{Name, names, insert, remove, resize}
 use Rattle.table.proofs.Canon.{canon, Widen, widened}
 use Rattle.table.proofs.Chain.{ChainFrom, step, Chain}
 use Rattle.table.proofs.GapLaws.{gap-here, apart-le}

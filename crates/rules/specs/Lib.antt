@@ -1,3 +1,3 @@
 -- How a call edits the live pieces, and what is proved of it.
 pub mod Between
-pub mod Edits
+pub mod Editing

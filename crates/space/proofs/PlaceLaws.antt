@@ -1,7 +1,7 @@
 -- Laws of an allocation: the place lies in free bytes, the new piece stands among the live ones in address order, and refusal by refusal what an
 -- allocation means.
 --
--- In this order: live pieces below and above an address, and a piece inserted between them; the place in an entry (Spotted); what is
+-- In this order: live pieces below and above an address, and a piece inserted between them; the place in an entry (PlaceIn); what is
 -- placed; refusals.
 --
 -- Assumes nothing.
@@ -17,11 +17,11 @@ use borrow.Author.Tests.{le-leb, lt-leb, lt-ltb, le-ltb, eq-eqb, ne-eqb, ltb-fal
 use Rattle.change.proofs.AroundLaws.{lives-live, lives-free}
 use Rattle.choose.proofs.BestLaws.{entry-read, best-found, fits-small, fits-large}
 use Rattle.choose.specs.Choose.{fitsIn, best, FitsSmall, FitsLarge}
-use Rattle.choose.specs.Spot.{EndsFit, inLarge, inSmall, asPage, largeSpot, smallSpot, spotOf, spotAddress}
-use Rattle.choose.specs.declared.Place.the-variants.{At, Nothing}
-use Rattle.choose.specs.declared.Place.{Place}
-use Rattle.choose.specs.declared.spot.Spot.the-variants.{Section, Page, End}
-use Rattle.choose.specs.declared.spot.Spot.{Spot}
+use Rattle.choose.specs.Place.{EndsFit, inLarge, inSmall, asPage, largePlaceFor, smallPlaceFor, placeFor, placeAddress}
+use Rattle.choose.specs.declared.Chosen.the-variants.{At, Nothing}
+use Rattle.choose.specs.declared.Chosen.{Chosen}
+use Rattle.choose.specs.declared.place.Place.the-variants.{Section, Page, End}
+use Rattle.choose.specs.declared.place.Place.{Place}
 use Rattle.pages.proofs.Numbers.{split}
 use Rattle.pages.proofs.PageLaws.{page-pos, up-ge, borders}
 use Rattle.pages.specs.Pages.{up}
@@ -35,7 +35,7 @@ use Rattle.pieces.specs.declared.Piece.{Piece}
 use Rattle.pieces.specs.declared.Status.the-variants.{Live, Free}
 use Rattle.pieces.specs.declared.Status.{Status}
 use Rattle.rules.proofs.SpliceLaws.{lives-append}
-use Rattle.rules.specs.Edits.{insert}
+use Rattle.rules.specs.Editing.{insert}
 use Rattle.space.proofs.SettleLaws.{is-sound-true, entries-halves}
 use Rattle.space.specs.Answers.{notSound, unknownCode, zeroAsked, beyondLimit, tableFull, noAddress, soundb, entriesOf, Outcome, refused, settled}
 use Rattle.space.specs.Placing.{metadataCode, rawCode, typeb, classFor, beyondb, Placed, refusingPlace, placedAt, placed, allocated}
@@ -130,7 +130,7 @@ module _ (sp : Space) (w : List ℕ) (s : Sound (sp .page) (sp .limit) (sp .end)
   -- ---- the place in an entry
 
   -- room bytes from b on lie in the free entry i
-  pub record Spotted (i b room : ℕ) : Type 0 where
+  pub record PlaceIn (i b room : ℕ) : Type 0 where
     pub entry : Piece
     pub class : Class
     pub lt : i < sp .count
@@ -142,11 +142,11 @@ module _ (sp : Space) (w : List ℕ) (s : Sound (sp .page) (sp .limit) (sp .end)
   pos : 0 < sp .page
   pos = page-pos (s .ranges .page)
 
-  large-spotted : (room i b : ℕ) → largeSpot (sp .page) room (entriesOf sp w) ≡ Section i b → Spotted i b room
-  unfolding largeSpot
-  large-spotted room i b e = go (best (fitsIn (sp .page) Large room) 0 Nothing (entriesOf sp w)) refl e
+  large-in : (room i b : ℕ) → largePlaceFor (sp .page) room (entriesOf sp w) ≡ Section i b → PlaceIn i b room
+  unfolding largePlaceFor
+  large-in room i b e = go (best (fitsIn (sp .page) Large room) 0 Nothing (entriesOf sp w)) refl e
     where
-      go : (r : Place) → best (fitsIn (sp .page) Large room) 0 Nothing (entriesOf sp w) ≡ r → inLarge (sp .page) r ≡ Section i b → Spotted i b room
+      go : (r : Chosen) → best (fitsIn (sp .page) Large room) 0 Nothing (entriesOf sp w) ≡ r → inLarge (sp .page) r ≡ Section i b → PlaceIn i b room
       go Nothing q d = let z : _≡_ {A = ℕ} 0 1 = cc in absurd (omega arith)
       go (At j f) q d =
           let j-is : j ≡ i = cc in
@@ -165,16 +165,16 @@ module _ (sp : Space) (w : List ℕ) (s : Sound (sp .page) (sp .limit) (sp .end)
             high = omega (arith, l .room);
           }
 
-  large-not-page : (room i b : ℕ) → largeSpot (sp .page) room (entriesOf sp w) ≡ Page i b → ⊥
-  unfolding largeSpot
+  large-not-page : (room i b : ℕ) → largePlaceFor (sp .page) room (entriesOf sp w) ≡ Page i b → ⊥
+  unfolding largePlaceFor
   large-not-page room i b e = go (best (fitsIn (sp .page) Large room) 0 Nothing (entriesOf sp w)) e
     where
-      go : (r : Place) → inLarge (sp .page) r ≡ Page i b → ⊥
+      go : (r : Chosen) → inLarge (sp .page) r ≡ Page i b → ⊥
       go Nothing d = let z : _≡_ {A = ℕ} 0 1 = cc in omega arith
       go (At j f) d = let z : _≡_ {A = ℕ} 0 1 = cc in omega arith
 
   small-found : (k : Class) → Small k → (room i b j : ℕ) (f : Piece) → best (fitsIn (sp .page) k room) 0 Nothing (entriesOf sp w) ≡ At j f
-      → Section j (f .address) ≡ Section i b → Spotted i b room
+      → Section j (f .address) ≡ Section i b → PlaceIn i b room
   small-found k h room i b j f q d =
       let j-is : j ≡ i = cc in
       let b-is : f .address ≡ b = cc in
@@ -191,67 +191,67 @@ module _ (sp : Space) (w : List ℕ) (s : Sound (sp .page) (sp .limit) (sp .end)
         high = omega (arith, l .room);
       }
 
-  small-section : (k : Class) → Small k → (room i b : ℕ) → smallSpot (sp .page) k room (entriesOf sp w) ≡ Section i b → Spotted i b room
-  unfolding smallSpot
+  small-section : (k : Class) → Small k → (room i b : ℕ) → smallPlaceFor (sp .page) k room (entriesOf sp w) ≡ Section i b → PlaceIn i b room
+  unfolding smallPlaceFor
   small-section k h room i b e = go (best (fitsIn (sp .page) k room) 0 Nothing (entriesOf sp w)) refl e
     where
-      no-section : (q : Spot) → asPage q ≡ Section i b → ⊥
+      no-section : (q : Place) → asPage q ≡ Section i b → ⊥
       no-section (Section j c) d = let z : _≡_ {A = ℕ} 0 1 = cc in omega arith
       no-section (Page j c) d = let z : _≡_ {A = ℕ} 0 1 = cc in omega arith
       no-section End d = let z : _≡_ {A = ℕ} 0 1 = cc in omega arith
 
-      go : (r : Place) → best (fitsIn (sp .page) k room) 0 Nothing (entriesOf sp w) ≡ r
-          → inSmall (asPage (largeSpot (sp .page) (sp .page) (entriesOf sp w))) r ≡ Section i b → Spotted i b room
+      go : (r : Chosen) → best (fitsIn (sp .page) k room) 0 Nothing (entriesOf sp w) ≡ r
+          → inSmall (asPage (largePlaceFor (sp .page) (sp .page) (entriesOf sp w))) r ≡ Section i b → PlaceIn i b room
       go (At j f) q d = small-found k h room i b j f q d
-      go Nothing q d = absurd (no-section (largeSpot (sp .page) (sp .page) (entriesOf sp w)) d)
+      go Nothing q d = absurd (no-section (largePlaceFor (sp .page) (sp .page) (entriesOf sp w)) d)
 
-  small-page : (k : Class) (room i b : ℕ) → smallSpot (sp .page) k room (entriesOf sp w) ≡ Page i b → Spotted i b (sp .page)
-  unfolding smallSpot
+  small-page : (k : Class) (room i b : ℕ) → smallPlaceFor (sp .page) k room (entriesOf sp w) ≡ Page i b → PlaceIn i b (sp .page)
+  unfolding smallPlaceFor
   small-page k room i b e = go (best (fitsIn (sp .page) k room) 0 Nothing (entriesOf sp w)) e
     where
-      as-page : (q : Spot) → largeSpot (sp .page) (sp .page) (entriesOf sp w) ≡ q → asPage q ≡ Page i b → Spotted i b (sp .page)
+      as-page : (q : Place) → largePlaceFor (sp .page) (sp .page) (entriesOf sp w) ≡ q → asPage q ≡ Page i b → PlaceIn i b (sp .page)
       as-page (Section j c) u d =
           let j-is : j ≡ i = cc in
           let c-is : c ≡ b = cc in
-          large-spotted (sp .page) i b (u ∙ rw (j-is, c-is))
+          large-in (sp .page) i b (u ∙ rw (j-is, c-is))
       as-page (Page j c) u d = absurd (large-not-page (sp .page) j c u)
       as-page End u d = let z : _≡_ {A = ℕ} 0 1 = cc in absurd (omega arith)
 
-      go : (r : Place) → inSmall (asPage (largeSpot (sp .page) (sp .page) (entriesOf sp w))) r ≡ Page i b → Spotted i b (sp .page)
+      go : (r : Chosen) → inSmall (asPage (largePlaceFor (sp .page) (sp .page) (entriesOf sp w))) r ≡ Page i b → PlaceIn i b (sp .page)
       go (At j f) d = let z : _≡_ {A = ℕ} 0 1 = cc in absurd (omega arith)
-      go Nothing d = as-page (largeSpot (sp .page) (sp .page) (entriesOf sp w)) refl d
+      go Nothing d = as-page (largePlaceFor (sp .page) (sp .page) (entriesOf sp w)) refl d
 
-  less : {i b more : ℕ} (room : ℕ) → room ≤ more → Spotted i b more → Spotted i b room
+  less : {i b more : ℕ} (room : ℕ) → room ≤ more → PlaceIn i b more → PlaceIn i b room
   less room l f = record { entry = f .entry; class = f .class; lt = f .lt; is = f .is; free = f .free; low = f .low; high = omega (arith, f .high) }
 
-  spot-section : (k : Class) (room i b : ℕ) → spotOf (sp .page) k room (entriesOf sp w) ≡ Section i b → Spotted i b room
-  unfolding spotOf
-  spot-section SmallMetadata room i b e = small-section SmallMetadata metadata room i b e
-  spot-section SmallRaw room i b e = small-section SmallRaw raw room i b e
-  spot-section Large room i b e = large-spotted room i b e
+  place-section : (k : Class) (room i b : ℕ) → placeFor (sp .page) k room (entriesOf sp w) ≡ Section i b → PlaceIn i b room
+  unfolding placeFor
+  place-section SmallMetadata room i b e = small-section SmallMetadata metadata room i b e
+  place-section SmallRaw room i b e = small-section SmallRaw raw room i b e
+  place-section Large room i b e = large-in room i b e
 
-  spot-page : (k : Class) (room i b : ℕ) → (Small k → room < sp .page) → spotOf (sp .page) k room (entriesOf sp w) ≡ Page i b → Spotted i b room
-  unfolding spotOf
-  spot-page SmallMetadata room i b u e = less room (omega (arith, u metadata)) (small-page SmallMetadata room i b e)
-  spot-page SmallRaw room i b u e = less room (omega (arith, u raw)) (small-page SmallRaw room i b e)
-  spot-page Large room i b u e = absurd (large-not-page room i b e)
+  place-page : (k : Class) (room i b : ℕ) → (Small k → room < sp .page) → placeFor (sp .page) k room (entriesOf sp w) ≡ Page i b → PlaceIn i b room
+  unfolding placeFor
+  place-page SmallMetadata room i b u e = less room (omega (arith, u metadata)) (small-page SmallMetadata room i b e)
+  place-page SmallRaw room i b u e = less room (omega (arith, u raw)) (small-page SmallRaw room i b e)
+  place-page Large room i b u e = absurd (large-not-page room i b e)
 
-  -- what is spotted is within the limit, and the new piece stands there among the live ones
-  pub spotted-limit : {i b room : ℕ} → Spotted i b room → b + room ≤ sp .limit
-  spotted-limit {i} f = omega (arith, f .high, ap behind (f .is), ends-below i (f .lt), s .ranges .end-limit)
+  -- a place in an entry is within the limit, and the new piece stands there among the live ones
+  pub place-in-limit : {i b room : ℕ} → PlaceIn i b room → b + room ≤ sp .limit
+  place-in-limit {i} f = omega (arith, f .high, ap behind (f .is), ends-below i (f .lt), s .ranges .end-limit)
 
-  pub spotted-lives : {i b : ℕ} (room : ℕ) (k : Class) → 1 ≤ room → Spotted i b room
+  pub place-in-lives : {i b : ℕ} (room : ℕ) (k : Class) → 1 ≤ room → PlaceIn i b room
       → insert (piece b room (Live k)) (lives (entriesOf sp w)) ≡ livesAround sp w i i (piece b room (Live k) ∷ [])
-  spotted-lives {i} {b} room k some f = insert-within i (f .entry) (f .class) (piece b room (Live k)) (f .lt) (f .is) (f .free) (f .low) (omega (arith, f .high))
+  place-in-lives {i} {b} room k some f = insert-within i (f .entry) (f .class) (piece b room (Live k)) (f .lt) (f .is) (f .free) (f .low) (omega (arith, f .high))
 
 -- ---- the chosen place
 
-module _ (sp : Space) (k : Class) (s : ℕ) (w : List ℕ) (q : Spot) (h : PlaceFits sp k s w q) where
-  pub section-spotted : (i b : ℕ) → q ≡ Section i b → Spotted sp w (h .sound) i b s
-  section-spotted i b e = spot-section sp w (h .sound) k s i b (sym (h .chosen) ∙ e)
+module _ (sp : Space) (k : Class) (s : ℕ) (w : List ℕ) (q : Place) (h : PlaceFits sp k s w q) where
+  pub section-in : (i b : ℕ) → q ≡ Section i b → PlaceIn sp w (h .sound) i b s
+  section-in i b e = place-section sp w (h .sound) k s i b (sym (h .chosen) ∙ e)
 
-  pub page-spotted : (i b : ℕ) → q ≡ Page i b → Spotted sp w (h .sound) i b s
-  page-spotted i b e = spot-page sp w (h .sound) k s i b (h .small) (sym (h .chosen) ∙ e)
+  pub page-in : (i b : ℕ) → q ≡ Page i b → PlaceIn sp w (h .sound) i b s
+  page-in i b e = place-page sp w (h .sound) k s i b (h .small) (sym (h .chosen) ∙ e)
 
 -- ---- what is placed
 
@@ -264,14 +264,14 @@ pub refusing-place-no : (sp : Space) (w : List ℕ) (t : Bool) (r : ℕ) (p : Pl
 unfolding refusingPlace
 refusing-place-no sp w t r p e = rw e
 
-pub placed-in : (sp : Space) (k : Class) (s : ℕ) (w : List ℕ) (q : Spot) (h : PlaceFits sp k s w q) (i b : ℕ) → beyondb sp s q ≡ false
-    → spotAddress (sp .end) q ≡ b → Spotted sp w (h .sound) i b s
+pub placed-in : (sp : Space) (k : Class) (s : ℕ) (w : List ℕ) (q : Place) (h : PlaceFits sp k s w q) (i b : ℕ) → beyondb sp s q ≡ false
+    → placeAddress (sp .end) q ≡ b → PlaceIn sp w (h .sound) i b s
     → placed sp k s w q ≡ placedAt b (settled sp w (livesAround sp w i i (piece b s (Live k) ∷ [])))
 unfolding placed
 placed-in sp k s w q h i b e a f =
     refusing-place-no sp w (beyondb sp s q) beyondLimit _ e
     ∙ (ap (λ (v : ℕ). placedAt v (settled sp w (insert (piece v s (Live k)) (lives (entriesOf sp w))))) a
-    ∙ ap (λ (ps : List Piece). placedAt b (settled sp w ps)) (spotted-lives sp w (h .sound) s k (h .some) f))
+    ∙ ap (λ (ps : List Piece). placedAt b (settled sp w ps)) (place-in-lives sp w (h .sound) s k (h .some) f))
 
 module _ (sp : Space) (k : Class) (s : ℕ) (w : List ℕ) (sound : Sound (sp .page) (sp .limit) (sp .end) (sp .count) w) where
   pub placed-beyond : ltb (sp .limit) (up (sp .page) (sp .end + s)) ≡ true
@@ -339,16 +339,16 @@ module _ (sp : Space) (t s : ℕ) (w : List ℕ) where
       refusing-place-no sp w _ notSound _ (ap not e)
       ∙ (refusing-place-no sp w _ unknownCode _ (ap not f) ∙ refusing-place-yes sp w _ zeroAsked _ (eq-eqb s 0 g))
 
-  pub allocated-placed : soundb sp w ≡ true → typeb t ≡ true → (s ≡ 0 → ⊥) → (k : Class) (q : Spot) → k ≡ classFor (sp .page) t s
-      → q ≡ spotOf (sp .page) k s (entriesOf sp w) → allocated sp t s w ≡ placed sp k s w q
+  pub allocated-placed : soundb sp w ≡ true → typeb t ≡ true → (s ≡ 0 → ⊥) → (k : Class) (q : Place) → k ≡ classFor (sp .page) t s
+      → q ≡ placeFor (sp .page) k s (entriesOf sp w) → allocated sp t s w ≡ placed sp k s w q
   unfolding allocated
   allocated-placed e f g k q ek eq =
       refusing-place-no sp w _ notSound _ (ap not e)
       ∙ (refusing-place-no sp w _ unknownCode _ (ap not f)
       ∙ (refusing-place-no sp w _ zeroAsked _ (ne-eqb s 0 g)
-      ∙ (ap (λ (m : Class). placed sp m s w (spotOf (sp .page) m s (entriesOf sp w))) (sym ek) ∙ ap (placed sp k s w) (sym eq))))
+      ∙ (ap (λ (m : Class). placed sp m s w (placeFor (sp .page) m s (entriesOf sp w))) (sym ek) ∙ ap (placed sp k s w) (sym eq))))
 
-  pub place-fits : soundb sp w ≡ true → (s ≡ 0 → ⊥) → (k : Class) (q : Spot) → k ≡ classFor (sp .page) t s → q ≡ spotOf (sp .page) k s (entriesOf sp w)
+  pub place-fits : soundb sp w ≡ true → (s ≡ 0 → ⊥) → (k : Class) (q : Place) → k ≡ classFor (sp .page) t s → q ≡ placeFor (sp .page) k s (entriesOf sp w)
       → PlaceFits sp k s w q
   place-fits e g k q ek eq =
       record {

@@ -31,7 +31,7 @@ use Rattle.pieces.specs.Words.{entryWords, entryAt, entries, table}
 use Rattle.pieces.specs.declared.Piece.{Piece}
 use Rattle.rules.proofs.SpliceLaws.{lives-append, remove-at, resize-at}
 use Rattle.rules.specs.Between.{livesWith}
-use Rattle.rules.specs.Edits.{names, remove, resize}
+use Rattle.rules.specs.Editing.{names, remove, resize}
 use Rattle.space.specs.Answers.{tableFull, soundb, Outcome, refused, refusing, stateOf, settled}
 use Rattle.space.specs.Giving.{nameOf}
 use Rattle.space.specs.Settle.{settleSaid}

@@ -23,7 +23,7 @@ use Rattle.table.specs.Local.{noneb}
 use Rattle.find.specs.Find.{findLive}
 use Rattle.find.specs.declared.Found.{Found}
 use Rattle.find.specs.declared.Found.the-variants.{At, Missing}
-use Rattle.rules.specs.Edits.{Name, remove, resize}
+use Rattle.rules.specs.Editing.{Name, remove, resize}
 use Rattle.space.specs.declared.Space.{Space}
 use Rattle.space.specs.Answers.{notSound, zeroAsked, notLive, noRoomBehind, beyondLimit, tooLittleLeft, soundb, entriesOf, Outcome, refused, refusing, settled}
 

@@ -9,7 +9,7 @@
 --   placed sp k s w q       s bytes of class k go to the place q
 --   allocated sp t s w      an allocation
 --
--- The place itself is `spotOf` (choose/specs/Spot.antt). Assumes nothing.
+-- The place itself is `placeFor` (choose/specs/Place.antt). Assumes nothing.
 use mathlib.Core.Bool.{Bool, true, false, cond, not, _&&_, _||_}
 use mathlib.Core.List.{List}
 use Prim.Native.Nat.{ℕ, _+_}
@@ -20,10 +20,10 @@ use Rattle.pieces.specs.declared.Class.the-variants.{SmallMetadata, SmallRaw, L
 use Rattle.pieces.specs.declared.Status.the-variants.{Live}
 use Rattle.pieces.specs.Pieces.{piece}
 use Rattle.table.specs.Fill.{lives}
-use Rattle.choose.specs.Spot.{spotOf, spotAddress}
-use Rattle.choose.specs.declared.spot.Spot.{Spot}
-use Rattle.choose.specs.declared.spot.Spot.the-variants.{Section, Page, End}
-use Rattle.rules.specs.Edits.{insert}
+use Rattle.choose.specs.Place.{placeFor, placeAddress}
+use Rattle.choose.specs.declared.place.Place.{Place}
+use Rattle.choose.specs.declared.place.Place.the-variants.{Section, Page, End}
+use Rattle.rules.specs.Editing.{insert}
 use Rattle.space.specs.declared.Space.{Space}
 use Rattle.space.specs.Answers.{notSound, unknownCode, zeroAsked, beyondLimit, noAddress, soundb, entriesOf, Outcome, refused, settled}
 
@@ -39,12 +39,12 @@ typeb t = eqb t metadataCode || eqb t rawCode
 unfoldable pub classFor : ℕ → ℕ → ℕ → Class
 classFor P t s = cond (leb P s) Large (cond (eqb t metadataCode) SmallMetadata SmallRaw)
 
-abbrev pub atEndb : Spot → Bool
+abbrev pub atEndb : Place → Bool
 atEndb (Section i b) = false
 atEndb (Page i b) = false
 atEndb End = true
 
-abbrev pub beyondb : Space → ℕ → Spot → Bool
+abbrev pub beyondb : Space → ℕ → Place → Bool
 beyondb sp s q = atEndb q && ltb (sp .limit) (up (sp .page) (sp .end + s))
 
 pub record Placed : Type 0 where
@@ -60,11 +60,11 @@ unfoldable pub placedAt : ℕ → Outcome → Placed
 placedAt b o = record { address = cond (eqb (o .refusal) 0) b noAddress; outcome = o }
 
 -- s bytes of class k go to the place q
-unfoldable pub placed : Space → Class → ℕ → List ℕ → Spot → Placed
+unfoldable pub placed : Space → Class → ℕ → List ℕ → Place → Placed
 placed sp k s w q =
     refusingPlace sp w (beyondb sp s q) beyondLimit
-    (placedAt (spotAddress (sp .end) q)
-    (settled sp w (insert (piece (spotAddress (sp .end) q) s (Live k)) (lives (entriesOf sp w)))))
+    (placedAt (placeAddress (sp .end) q)
+    (settled sp w (insert (piece (placeAddress (sp .end) q) s (Live k)) (lives (entriesOf sp w)))))
 
 unfoldable pub allocated : Space → ℕ → ℕ → List ℕ → Placed
 allocated sp t s w =
@@ -72,4 +72,4 @@ allocated sp t s w =
     refusingPlace sp w (not (soundb sp w)) notSound
     (refusingPlace sp w (not (typeb t)) unknownCode
     (refusingPlace sp w (eqb s 0) zeroAsked
-    (placed sp k s w (spotOf (sp .page) k s (entriesOf sp w)))))
+    (placed sp k s w (placeFor (sp .page) k s (entriesOf sp w)))))

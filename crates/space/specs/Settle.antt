@@ -20,8 +20,8 @@ use Rattle.pieces.specs.declared.Piece.{Piece}
 use Rattle.pieces.specs.Pieces.{Small}
 use Rattle.pages.specs.Pages.{PageSize}
 use Rattle.table.specs.Sound.{largestLimit, Sound}
-use Rattle.choose.specs.Spot.{spotOf}
-use Rattle.choose.specs.declared.spot.Spot.{Spot}
+use Rattle.choose.specs.Place.{placeFor}
+use Rattle.choose.specs.declared.place.Place.{Place}
 use Rattle.find.specs.Find.{FoundAt}
 use Rattle.edit.specs.Edit.{mostPieces}
 use Rattle.rules.specs.Between.{livesWith}
@@ -51,9 +51,9 @@ pub record LimitFits (sp : Space) : Type 0 where
   pub largest : sp .limit ≤ largestLimit
 
 -- the place q was chosen for s bytes of class k, of which there is at least one, among the entries of a sound table
-pub record PlaceFits (sp : Space) (k : Class) (s : ℕ) (w : List ℕ) (q : Spot) : Type 0 where
+pub record PlaceFits (sp : Space) (k : Class) (s : ℕ) (w : List ℕ) (q : Place) : Type 0 where
   pub sound : Sound (sp .page) (sp .limit) (sp .end) (sp .count) w
-  pub chosen : q ≡ spotOf (sp .page) k s (entriesOf sp w)
+  pub chosen : q ≡ placeFor (sp .page) k s (entriesOf sp w)
   pub some : 1 ≤ s
   pub small : Small k → s < sp .page
 

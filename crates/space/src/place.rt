@@ -13,7 +13,7 @@ use crate::Space;
 use crate::answers::AllocateAnswer;
 use crate::answers::Allocated;
 use crate::settle::Settling;
-use choose::spot::Spot;
+use choose::place::Place;
 use pieces::Class;
 use pieces::Piece;
 use pieces::Status;
@@ -70,8 +70,8 @@ impl Space {
 
     // A piece goes to the end, and the file grows.
     fn place_at_end(self, table: &mut [u64], class: Class, size: u64) -> Allocated
-        requires { ⌜ PlaceFits self class size (now table) Spot.End ⌝ }
-        ensures { λ r. ⌜ allocateSaid r (now (table .exit)) ≡ placed self class size (now (table .entry)) Spot.End ⌝ }
+        requires { ⌜ PlaceFits self class size (now table) Place.End ⌝ }
+        ensures { λ r. ⌜ allocateSaid r (now (table .exit)) ≡ placed self class size (now (table .entry)) Place.End ⌝ }
     {
         if self.passes_limit(self.end, size) {
             return Allocated {
@@ -84,14 +84,14 @@ impl Space {
     }
 
     // A piece goes to the place that was chosen.
-    fn place(self, table: &mut [u64], class: Class, size: u64, spot: Spot) -> Allocated
-        requires { ⌜ PlaceFits self class size (now table) spot ⌝ }
-        ensures { λ r. ⌜ allocateSaid r (now (table .exit)) ≡ placed self class size (now (table .entry)) spot ⌝ }
+    fn place(self, table: &mut [u64], class: Class, size: u64, place: Place) -> Allocated
+        requires { ⌜ PlaceFits self class size (now table) place ⌝ }
+        ensures { λ r. ⌜ allocateSaid r (now (table .exit)) ≡ placed self class size (now (table .entry)) place ⌝ }
     {
-        match spot {
-            Spot::Section(i, b) => self.place_in(table, i, b, class, size),
-            Spot::Page(i, b) => self.place_in(table, i, b, class, size),
-            Spot::End => self.place_at_end(table, class, size),
+        match place {
+            Place::Section(i, b) => self.place_in(table, i, b, class, size),
+            Place::Page(i, b) => self.place_in(table, i, b, class, size),
+            Place::End => self.place_at_end(table, class, size),
         }
     }
 
@@ -118,7 +118,7 @@ impl Space {
         }
         let n = self.count as usize;
         let class = class_for(self.page, code, size);
-        let spot = choose::spot::spot_for(self.page, class, size, n, table);
-        self.place(table, class, size, spot)
+        let place = choose::place::place_for(self.page, class, size, n, table);
+        self.place(table, class, size, place)
     }
 }

@@ -9,7 +9,7 @@ use native.Mathlib.Nat.{sub-zero}
 use borrow.Author.Needs.{needs}
 use Rattle.choose.proofs.ChooseLaws.{best-of-better, best-of-larger, best-of-misfit, best-next, best-end, best-exact, fits-other, fits-free, fits-least}
 use Rattle.choose.specs.Choose.{fitsIn, bestOf, best}
-use Rattle.choose.specs.declared.Place.the-variants.{At, Nothing}
+use Rattle.choose.specs.declared.Chosen.the-variants.{At, Nothing}
 use Rattle.pieces.specs.declared.Piece.{Piece}
 use Rattle.pieces.proofs.WordLaws.{entry-said}
 use Rattle.pieces.specs.Words.{pieceOf, entries}

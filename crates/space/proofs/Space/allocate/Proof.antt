@@ -37,17 +37,17 @@ returns-3 c = sym (allocated-zero _ _ _ _ (passes (c .before .before .before .be
 class-for-requires : tie.Need-class-for-requires
 class-for-requires c κs = search needs
 
-spot-for-requires : tie.Need-spot-for-requires
-spot-for-requires c κs = let s = is-sound-true (c .before .before .before .before .before .before .before .before .before .args .self) _ (passes (c .before .before .before .before .before .before .is-sound .ensures) (c .before .before .before .before .before .if1 .left)) in ((page-pos (s .ranges .page), count-fits (s .ranges)), ends-fit _ _ s)
+place-for-requires : tie.Need-place-for-requires
+place-for-requires c κs = let s = is-sound-true (c .before .before .before .before .before .before .before .before .before .args .self) _ (passes (c .before .before .before .before .before .before .is-sound .ensures) (c .before .before .before .before .before .if1 .left)) in ((page-pos (s .ranges .page), count-fits (s .ranges)), ends-fit _ _ s)
 
 place-requires : tie.Need-place-requires
-place-requires c κs = place-fits _ (c .before .before .before .before .before .before .before .before .before .before .before .args .code) _ _ (passes (c .before .before .before .before .before .before .before .before .is-sound .ensures) (c .before .before .before .before .before .before .before .if1 .left)) (c .before .before .before .before .if3 .left) _ _ (c .before .before .before .class-for .ensures) (c .before .spot-for .ensures)
+place-requires c κs = place-fits _ (c .before .before .before .before .before .before .before .before .before .before .before .args .code) _ _ (passes (c .before .before .before .before .before .before .before .before .is-sound .ensures) (c .before .before .before .before .before .before .before .if1 .left)) (c .before .before .before .before .if3 .left) _ _ (c .before .before .before .class-for .ensures) (c .before .place-for .ensures)
 
 same-length-4 : tie.Need-same-length-4
 same-length-4 c = search needs
 
 returns-4 : tie.Need-returns-4
-returns-4 c = c .before .before .place .ensures ∙ sym (allocated-placed _ _ _ _ (passes (c .before .before .before .before .before .before .before .before .before .before .before .is-sound .ensures) (c .before .before .before .before .before .before .before .before .before .before .if1 .left)) (passes (c .before .before .before .before .before .before .before .before .before .is-type .ensures) (c .before .before .before .before .before .before .before .before .if2 .left)) (c .before .before .before .before .before .before .before .if3 .left) _ _ (c .before .before .before .before .before .before .class-for .ensures) (c .before .before .before .before .spot-for .ensures))
+returns-4 c = c .before .before .place .ensures ∙ sym (allocated-placed _ _ _ _ (passes (c .before .before .before .before .before .before .before .before .before .before .before .is-sound .ensures) (c .before .before .before .before .before .before .before .before .before .before .if1 .left)) (passes (c .before .before .before .before .before .before .before .before .before .is-type .ensures) (c .before .before .before .before .before .before .before .before .if2 .left)) (c .before .before .before .before .before .before .before .if3 .left) _ _ (c .before .before .before .before .before .before .class-for .ensures) (c .before .before .before .before .place-for .ensures))
 
 pub allocate-spec : {M : Type 1} → statement M
 allocate-spec =
@@ -62,7 +62,7 @@ allocate-spec =
     same-length-3
     returns-3
     class-for-requires
-    spot-for-requires
+    place-for-requires
     place-requires
     same-length-4
     returns-4)

@@ -3,22 +3,22 @@
 use mathlib.Core.Path.{refl, sym, ap, _∙_}
 use native.Mathlib.Omega.{arith}
 use borrow.Author.Needs.{needs}
-use Rattle.space.proofs.PlaceLaws.{section-spotted, page-spotted, spotted-limit, placed-in}
+use Rattle.space.proofs.PlaceLaws.{section-in, page-in, place-in-limit, placed-in}
 use Rattle.space.specs.Placing.{placed}
 use Rattle.space.proofs.Space.place.Statement.{statement}
 use Rattle.space.proofs.Space.place.Tie as tie
 
-enum-known-spot : tie.Need-enum-known-spot
-enum-known-spot c = search needs
+enum-known-place : tie.Need-enum-known-place
+enum-known-place c = search needs
 
 place-in-requires : tie.Need-place-in-requires
-place-in-requires c κs = let h = c .before .before .before .before .before .pre in let f = section-spotted _ _ _ _ _ h _ _ (c .before .before .spot .given .1) in (record { sound = h .sound; high = omega (arith, f .lt) }, spotted-limit _ _ (h .sound) f)
+place-in-requires c κs = let h = c .before .before .before .before .before .pre in let f = section-in _ _ _ _ _ h _ _ (c .before .before .place .given .1) in (record { sound = h .sound; high = omega (arith, f .lt) }, place-in-limit _ _ (h .sound) f)
 
-enum-known-spot-2 : tie.Need-enum-known-spot-2
-enum-known-spot-2 c = search needs
+enum-known-place-2 : tie.Need-enum-known-place-2
+enum-known-place-2 c = search needs
 
 place-in-requires-2 : tie.Need-place-in-requires-2
-place-in-requires-2 c κs = let h = c .before .before .before .before .before .pre in let f = page-spotted _ _ _ _ _ h _ _ (c .before .before .spot2 .given .1) in (record { sound = h .sound; high = omega (arith, f .lt) }, spotted-limit _ _ (h .sound) f)
+place-in-requires-2 c κs = let h = c .before .before .before .before .before .pre in let f = page-in _ _ _ _ _ h _ _ (c .before .before .place2 .given .1) in (record { sound = h .sound; high = omega (arith, f .lt) }, place-in-limit _ _ (h .sound) f)
 
 enum-told : tie.Need-enum-told
 enum-told c = search needs
@@ -30,13 +30,13 @@ same-length : tie.Need-same-length
 same-length c = search needs
 
 returns : tie.Need-returns
-returns c = let h = c .before .before .before .before .before .before .before .before .pre in let e = c .before .before .before .before .before .spot .given .1 in c .before .before .place-in .ensures ∙ sym (placed-in _ _ _ _ _ h _ _ (rw e refl) (rw e refl) (section-spotted _ _ _ _ _ h _ _ e))
+returns c = let h = c .before .before .before .before .before .before .before .before .pre in let e = c .before .before .before .before .before .place .given .1 in c .before .before .place-in .ensures ∙ sym (placed-in _ _ _ _ _ h _ _ (rw e refl) (rw e refl) (section-in _ _ _ _ _ h _ _ e))
 
 same-length-2 : tie.Need-same-length-2
 same-length-2 c = search needs
 
 returns-2 : tie.Need-returns-2
-returns-2 c = let h = c .before .before .before .before .before .before .before .before .pre in let e = c .before .before .before .before .before .spot2 .given .1 in c .before .before .place-in2 .ensures ∙ sym (placed-in _ _ _ _ _ h _ _ (rw e refl) (rw e refl) (page-spotted _ _ _ _ _ h _ _ e))
+returns-2 c = let h = c .before .before .before .before .before .before .before .before .pre in let e = c .before .before .before .before .before .place2 .given .1 in c .before .before .place-in2 .ensures ∙ sym (placed-in _ _ _ _ _ h _ _ (rw e refl) (rw e refl) (page-in _ _ _ _ _ h _ _ e))
 
 same-length-3 : tie.Need-same-length-3
 same-length-3 c = search needs
@@ -48,9 +48,9 @@ pub place-spec : {M : Type 1} → statement M
 place-spec =
     tie.close
     (tie.spec
-    enum-known-spot
+    enum-known-place
     place-in-requires
-    enum-known-spot-2
+    enum-known-place-2
     place-in-requires-2
     enum-told
     place-at-end-requires

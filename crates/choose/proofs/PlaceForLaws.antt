@@ -14,9 +14,9 @@ use Rattle.pieces.specs.declared.Class.the-variants.{Large}
 use Rattle.pieces.specs.declared.Piece.{Piece}
 use Rattle.pieces.specs.Pieces.{behind}
 use Rattle.pieces.specs.Words.{entryAt, entries}
-use Rattle.choose.specs.declared.Place.the-variants.{At, Nothing}
+use Rattle.choose.specs.declared.Chosen.the-variants.{At, Nothing}
 use Rattle.choose.specs.Choose.{fitsIn, best, FitsLarge}
-use Rattle.choose.specs.Spot.{EndsFit}
+use Rattle.choose.specs.Place.{EndsFit}
 use Rattle.choose.proofs.BestLaws.{entry-read, best-found, fits-large}
 
 pub border-fits : (P : ℕ) → 0 < P → (s : ℕ) (w : List ℕ) (n i : ℕ) (x : Piece) → EndsFit w n

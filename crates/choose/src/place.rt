@@ -1,0 +1,63 @@
+// Where a piece goes, and how that place was found.
+ghost use mathlib.Core.Path.{_≡_};
+ghost use Prim.Native.Nat.{_*_, _≤_, _<_};
+ghost use lib.ListN.{length};
+ghost use Rattle.pieces.specs.Words.{entryWords, entries};
+ghost use Rattle.choose.specs.Place.{EndsFit, asPage, largePlaceFor, smallPlaceFor, placeFor};
+use crate::Chosen;
+use crate::best_place;
+use pieces::Class;
+
+pub enum Place {
+    // In entry i, a section of the right manager, at this address.
+    Section(usize, u64),
+    // In entry i, a page out of the large manager's free space for a small piece, at this address.
+    Page(usize, u64),
+    // New pages at the end.
+    End,
+}
+
+// The place of a large piece: the first border in the best free large entry, or the end.
+fn large_place_for(p: u64, s: u64, n: usize, table: &[u64]) -> Place
+    requires { ⌜ ((0 < p) × (n * entryWords ≤ length (now table))) × EndsFit (now table) n ⌝ }
+    ensures { λ r. ⌜ r ≡ largePlaceFor p s (entries (now (table .entry)) 0 n) ⌝ }
+{
+    let Chosen::At(i, piece) = best_place(p, Class::Large, s, n, table) else {
+        return Place::End;
+    };
+    Place::Section(i, piece.address + pages::up_from(p, piece.address))
+}
+
+// The same place, found as a page for a small piece.
+fn as_page(place: Place) -> Place
+    ensures { λ r. ⌜ r ≡ asPage place ⌝ }
+{
+    match place {
+        Place::Section(i, b) => Place::Page(i, b),
+        Place::Page(i, b) => Place::Page(i, b),
+        Place::End => Place::End,
+    }
+}
+
+// The place of a small piece: the start of the best free small entry of its class, or a page by the large rule.
+fn small_place_for(p: u64, class: Class, s: u64, n: usize, table: &[u64]) -> Place
+    requires { ⌜ ((0 < p) × (n * entryWords ≤ length (now table))) × EndsFit (now table) n ⌝ }
+    ensures { λ r. ⌜ r ≡ smallPlaceFor p class s (entries (now (table .entry)) 0 n) ⌝ }
+{
+    let Chosen::At(i, piece) = best_place(p, class, s, n, table) else {
+        return as_page(large_place_for(p, p, n, table));
+    };
+    Place::Section(i, piece.address)
+}
+
+// The place for s bytes of a class.
+pub fn place_for(p: u64, class: Class, s: u64, n: usize, table: &[u64]) -> Place
+    requires { ⌜ ((0 < p) × (n * entryWords ≤ length (now table))) × EndsFit (now table) n ⌝ }
+    ensures { λ r. ⌜ r ≡ placeFor p class s (entries (now (table .entry)) 0 n) ⌝ }
+{
+    match class {
+        Class::SmallMetadata => small_place_for(p, class, s, n, table),
+        Class::SmallRaw => small_place_for(p, class, s, n, table),
+        Class::Large => large_place_for(p, s, n, table),
+    }
+}
