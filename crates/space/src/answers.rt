@@ -1,4 +1,6 @@
-// What the calls answer: one case for each refusal that a call can give. Document 01's numbers for them are in specs/Answers.antt.
+// What the calls answer: one case for each refusal that a call can give, and document 01's number for each case.
+ghost use mathlib.Core.Path.{_≡_};
+ghost use Rattle.space.specs.Answers.{openNumber, allocateNumber, addressOf, releaseNumber, extendNumber, shortenNumber, listNumber, countOf};
 use crate::Space;
 
 pub enum OpenAnswer {
@@ -77,4 +79,125 @@ pub struct Shortened {
 pub struct Listed {
     pub space: Space,
     pub answer: ListAnswer,
+}
+
+// Document 01's number for each answer: 0 where the call is accepted. Each refusal's number stands once, under its name.
+pub const DONE: u64 = 0;
+
+pub const OUT_OF_RANGE: u64 = 1;
+
+pub const NOT_SOUND: u64 = 2;
+
+pub const UNKNOWN_CODE: u64 = 3;
+
+pub const ZERO_ASKED: u64 = 4;
+
+pub const BEYOND_LIMIT: u64 = 5;
+
+pub const TABLE_FULL: u64 = 6;
+
+pub const NOT_LIVE: u64 = 7;
+
+pub const NO_ROOM_BEHIND: u64 = 8;
+
+pub const TOO_LITTLE_LEFT: u64 = 9;
+
+pub const SLICE_TOO_SHORT: u64 = 10;
+
+// The address answer of a refused call.
+pub const NO_ADDRESS: u64 = 18446744073709551615;
+
+pub fn open_number(answer: OpenAnswer) -> u64
+    ensures { λ r. ⌜ r ≡ openNumber answer ⌝ }
+{
+    match answer {
+        OpenAnswer::Done => DONE,
+        OpenAnswer::OutOfRange => OUT_OF_RANGE,
+    }
+}
+
+pub fn allocate_number(answer: AllocateAnswer) -> u64
+    ensures { λ r. ⌜ r ≡ allocateNumber answer ⌝ }
+{
+    match answer {
+        AllocateAnswer::At(_) => DONE,
+        AllocateAnswer::NotSound => NOT_SOUND,
+        AllocateAnswer::UnknownType => UNKNOWN_CODE,
+        AllocateAnswer::NoBytes => ZERO_ASKED,
+        AllocateAnswer::BeyondLimit => BEYOND_LIMIT,
+        AllocateAnswer::TableFull => TABLE_FULL,
+    }
+}
+
+pub fn address_of(answer: AllocateAnswer) -> u64
+    ensures { λ r. ⌜ r ≡ addressOf answer ⌝ }
+{
+    match answer {
+        AllocateAnswer::At(address) => address,
+        AllocateAnswer::NotSound => NO_ADDRESS,
+        AllocateAnswer::UnknownType => NO_ADDRESS,
+        AllocateAnswer::NoBytes => NO_ADDRESS,
+        AllocateAnswer::BeyondLimit => NO_ADDRESS,
+        AllocateAnswer::TableFull => NO_ADDRESS,
+    }
+}
+
+pub fn release_number(answer: ReleaseAnswer) -> u64
+    ensures { λ r. ⌜ r ≡ releaseNumber answer ⌝ }
+{
+    match answer {
+        ReleaseAnswer::Done => DONE,
+        ReleaseAnswer::NotSound => NOT_SOUND,
+        ReleaseAnswer::NotLive => NOT_LIVE,
+        ReleaseAnswer::TableFull => TABLE_FULL,
+    }
+}
+
+pub fn extend_number(answer: ExtendAnswer) -> u64
+    ensures { λ r. ⌜ r ≡ extendNumber answer ⌝ }
+{
+    match answer {
+        ExtendAnswer::Done => DONE,
+        ExtendAnswer::NotSound => NOT_SOUND,
+        ExtendAnswer::NoBytes => ZERO_ASKED,
+        ExtendAnswer::NotLive => NOT_LIVE,
+        ExtendAnswer::NoRoomBehind => NO_ROOM_BEHIND,
+        ExtendAnswer::BeyondLimit => BEYOND_LIMIT,
+        ExtendAnswer::TableFull => TABLE_FULL,
+    }
+}
+
+pub fn shorten_number(answer: ShortenAnswer) -> u64
+    ensures { λ r. ⌜ r ≡ shortenNumber answer ⌝ }
+{
+    match answer {
+        ShortenAnswer::Done => DONE,
+        ShortenAnswer::NotSound => NOT_SOUND,
+        ShortenAnswer::NoBytes => ZERO_ASKED,
+        ShortenAnswer::NotLive => NOT_LIVE,
+        ShortenAnswer::TooLittleLeft => TOO_LITTLE_LEFT,
+        ShortenAnswer::TableFull => TABLE_FULL,
+    }
+}
+
+pub fn list_number(answer: ListAnswer) -> u64
+    ensures { λ r. ⌜ r ≡ listNumber answer ⌝ }
+{
+    match answer {
+        ListAnswer::Sections(_) => DONE,
+        ListAnswer::NotSound => NOT_SOUND,
+        ListAnswer::UnknownManager => UNKNOWN_CODE,
+        ListAnswer::SliceTooShort => SLICE_TOO_SHORT,
+    }
+}
+
+pub fn count_of(answer: ListAnswer) -> u64
+    ensures { λ r. ⌜ r ≡ countOf answer ⌝ }
+{
+    match answer {
+        ListAnswer::Sections(count) => count,
+        ListAnswer::NotSound => 0,
+        ListAnswer::UnknownManager => 0,
+        ListAnswer::SliceTooShort => 0,
+    }
 }
