@@ -1,5 +1,5 @@
--- The laws that the proofs of this and of the higher crates cite, and last the theorems of specs/Promises.antt.
+-- The laws that the proofs of this crate cite, and last the theorems of specs/Promises.antt.
 pub mod RuleLaws
-pub mod ByteLaws
+pub mod AnswerLaws
 pub mod SaysLaws
 pub mod Promised

@@ -12,18 +12,24 @@ use lib.Dec.{eqb, lit<}
 use lib.ListN.{length, take, drop, getD, replicate, take-append-drop, length-append}
 use lib.Seq.{take-at, drop-at}
 use Rattle.little.specs.Little.{byteValues, valueAt, Bytes}
-use Rattle.message.proofs.ByteLaws.{length-message, reading-refused, reading-done, follows-refused, follows-done, written-refused, written-done}
-use Rattle.message.proofs.RuleLaws.{legal-true, true-legal, false-legal, read-short, read-version, read-field, read-done, write-field, write-short, write-done}
+use Rattle.message.proofs.AnswerLaws.{read-short, read-version, read-field, read-done, write-field, write-short, write-done}
+use Rattle.message.proofs.AnswerLaws.{reading-refused, reading-done, follows-refused, follows-done, written-refused, written-done}
+use Rattle.message.proofs.RuleLaws.{legal-true, true-legal, false-legal}
 use Rattle.message.proofs.SaysLaws.{says-fields, fields-said, held-fields, message-said, said-message}
-use Rattle.message.specs.Layout.{versionAt, strategyAt, messageLength, types, addressWidth}
-use Rattle.message.specs.Message.{numberOf, version, Held, legalb, noFields, fieldsOf, messageOf, readAnswer, reading, refusedRead, following, written, Wrote}
-use Rattle.message.specs.Promises.{Legal, Says, NoMessage, ReadRow, ten, eleven, twelve, done, RestRow, whole, behind, WriteRow, ReadExact, RestExact, WriteExact, Message, Accepted, RoundTrip, Unique}
-use Rattle.message.specs.declared.fields.Answer.the-variants.{Done, Refused}
-use Rattle.message.specs.declared.fields.Answer.{Answer}
-use Rattle.message.specs.declared.fields.Fields.{Fields}
-use Rattle.message.specs.declared.fields.Read.{Read}
-use Rattle.message.specs.declared.fields.Refusal.the-variants.{Short, Version, Field}
-use Rattle.message.specs.declared.fields.Refusal.{Refusal}
+use Rattle.message.specs.Message.{readAnswer, reading, following, written, Wrote}
+use Rattle.message.specs.Promises.{Legal, Says, NoMessage, ReadRow, ten, eleven, twelve, done, RestRow, whole, behind, WriteRow}
+use Rattle.message.specs.Promises.{ReadExact, RestExact, WriteExact, Message, Accepted, RoundTrip, Unique}
+use Rattle.message_bytes.proofs.PartLaws.{length-message}
+use Rattle.message_bytes.specs.Parts.{fieldsOf, messageOf}
+use Rattle.message_fields.specs.Fields.{numberOf, version, Held, noFields, refusedRead}
+use Rattle.message_fields.specs.Layout.{versionAt, strategyAt, messageLength, types, addressWidth}
+use Rattle.message_fields.specs.Legal.{legalb}
+use Rattle.message_fields.specs.declared.Answer.the-variants.{Done, Refused}
+use Rattle.message_fields.specs.declared.Answer.{Answer}
+use Rattle.message_fields.specs.declared.Fields.{Fields}
+use Rattle.message_fields.specs.declared.Read.{Read}
+use Rattle.message_fields.specs.declared.Refusal.the-variants.{Short, Version, Field}
+use Rattle.message_fields.specs.declared.Refusal.{Refusal}
 use Rattle.pages.proofs.Numbers.{split, not-both}
 
 -- ---- answers by their numbers
@@ -57,8 +63,11 @@ says-done : {f : Fields} {b : List ℕ} → Says f b → Legal f → readAnswer 
 says-done {f} {b} s l = read-done b (s .room) (s .edition) (true-legal (fieldsOf b) (rw (fields-said s) at l))
 
 -- the four cases of any bytes
-read-cases : (b : List ℕ) {X : Type 0} → (length b < messageLength → X) → (messageLength ≤ length b → (valueAt versionAt strategyAt b ≡ version → ⊥) → X)
-    → (messageLength ≤ length b → valueAt versionAt strategyAt b ≡ version → legalb (fieldsOf b) ≡ false → X) → (Says (fieldsOf b) b → Legal (fieldsOf b) → X) → X
+read-cases : (b : List ℕ) {X : Type 0} → (length b < messageLength → X)
+    → (messageLength ≤ length b → (valueAt versionAt strategyAt b ≡ version → ⊥) → X)
+    → (messageLength ≤ length b → valueAt versionAt strategyAt b ≡ version → legalb (fieldsOf b) ≡ false → X)
+    → (Says (fieldsOf b) b → Legal (fieldsOf b) → X)
+    → X
 read-cases b {X} short old broken said =
     split messageLength (length b)
     (λ h. elim (ℕ-discrete (valueAt versionAt strategyAt b) version) [ yes v ↦ tested h v (legalb (fieldsOf b)) refl | no n ↦ old h n ])
@@ -69,7 +78,9 @@ read-cases b {X} short old broken said =
     tested h v false e = broken h v e
 
 -- the two cases of rest
-rest-cases : (b : List ℕ) {X : Type 0} → ((r : Refusal) → readAnswer b ≡ Refused r → NoMessage b → X) → (Says (fieldsOf b) b → Legal (fieldsOf b) → X) → X
+rest-cases : (b : List ℕ) {X : Type 0} → ((r : Refusal) → readAnswer b ≡ Refused r → NoMessage b → X)
+    → (Says (fieldsOf b) b → Legal (fieldsOf b) → X)
+    → X
 rest-cases b refused said =
     read-cases b
     (λ h. refused Short (read-short b h) (short-none b h))
@@ -200,7 +211,8 @@ module _ (f : Fields) (b : List ℕ) (h : Held f) (l : Legal f) (m : messageLeng
   write-rest : following (written f b) ≡ drop messageLength b
   write-rest = following-behind (written f b) trip-done ∙ laid-rest f b (written f b) h trip
 
-read-write : (b c : List ℕ) → Bytes b → readAnswer b ≡ Done → messageLength ≤ length c → written (reading b .fields) c ≡ take messageLength b ++ drop messageLength c
+read-write : (b c : List ℕ) → Bytes b → readAnswer b ≡ Done → messageLength ≤ length c
+    → written (reading b .fields) c ≡ take messageLength b ++ drop messageLength c
 read-write b c h e m =
     rest-cases b
     (λ r a n. let z : _≡_ {A = ℕ} 0 1 = cc in absurd (omega arith))

@@ -10,13 +10,16 @@ use mathlib.Core.Path.{_≡_, refl, sym, ap, _∙_}
 use native.Mathlib.Omega.{arith}
 use lib.ListN.{length, take, getD, length-append}
 use lib.Seq.{ext-getD}
-use Rattle.little.proofs.LittleLaws.{length-numbers, getD-numbers, part-part, front-split, take-part, little-bytesOf, numbers-bytesOfAll, length-bytesOf, bytesOf-part, bytesOfAll-numbers, length-part, bytes-part, value-lt, below-numbers}
+use Rattle.little.proofs.LittleLaws.{length-numbers, getD-numbers, part-part, front-split, take-part, little-bytesOf, numbers-bytesOfAll}
+use Rattle.little.proofs.LittleLaws.{length-bytesOf, bytesOf-part, bytesOfAll-numbers, length-part, bytes-part, value-lt, below-numbers}
 use Rattle.little.specs.Little.{byteValues, little, bytesOf, numbers, bytesOfAll, part, valueAt, Bytes, Below}
-use Rattle.message.proofs.ByteLaws.{length-head, length-front, fields-read}
-use Rattle.message.specs.Layout.{versionAt, strategyAt, persistAt, thresholdAt, pageAt, pageEndAt, eoaAt, smallAt, largeAt, messageLength, types, addressWidth}
-use Rattle.message.specs.Message.{version, Held, addressesOf, fieldsOf, headOf, messageOf}
 use Rattle.message.specs.Promises.{Addresses, Says}
-use Rattle.message.specs.declared.fields.Fields.{Fields}
+use Rattle.message_bytes.proofs.PartLaws.{length-head, length-front, fields-read}
+use Rattle.message_bytes.specs.Parts.{addressesOf, fieldsOf, headOf, messageOf}
+use Rattle.message_fields.specs.Fields.{version, Held}
+use Rattle.message_fields.specs.Layout.{versionAt, strategyAt, persistAt, thresholdAt, pageAt, pageEndAt, eoaAt, smallAt, largeAt}
+use Rattle.message_fields.specs.Layout.{messageLength, types, addressWidth}
+use Rattle.message_fields.specs.declared.Fields.{Fields}
 
 -- ---- addresses
 
@@ -82,7 +85,9 @@ value-of from to v b h e = sym (ap little e ∙ little-bytesOf (to - from) v h)
 addresses-of : (at end : ℕ) (vs b : List ℕ) → types * addressWidth ≤ end - at → length vs ≡ types → Below addressWidth vs
     → part at end b ≡ bytesOfAll addressWidth vs → Addresses at vs b
 addresses-of at end vs b l n h e =
-    let t : addressesOf (part at end b) ≡ vs = ap addressesOf e ∙ ap (λ (k : ℕ). numbers addressWidth k (bytesOfAll addressWidth vs)) (sym n) ∙ numbers-bytesOfAll addressWidth vs h in
+    let as-many : addressesOf (bytesOfAll addressWidth vs) ≡ numbers addressWidth (length vs) (bytesOfAll addressWidth vs) =
+    ap (λ (k : ℕ). numbers addressWidth k (bytesOfAll addressWidth vs)) (sym n) in
+    let t : addressesOf (part at end b) ≡ vs = ap addressesOf e ∙ as-many ∙ numbers-bytesOfAll addressWidth vs h in
     rw t at (said-addresses at end b l)
 
 pub message-said : (f : Fields) (b : List ℕ) → Held f → messageLength ≤ length b → take messageLength b ≡ messageOf f → Says f b
@@ -128,7 +133,8 @@ module _ (b : List ℕ) (h : Bytes b) (from to : ℕ) (l : from ≤ to) (m : to 
   front-number e d =
       rw (e, d, bytesOf-part (to - from) (part from to b) (bytes-part from to b h) (length-part from to b l m)) (take-part from to b l)
 
-  front-addresses : {p vs : List ℕ} → to - from ≡ types * addressWidth → p ≡ take from b → vs ≡ addressesOf (part from to b) → p ++ bytesOfAll addressWidth vs ≡ take to b
+  front-addresses : {p vs : List ℕ} → to - from ≡ types * addressWidth → p ≡ take from b → vs ≡ addressesOf (part from to b)
+      → p ++ bytesOfAll addressWidth vs ≡ take to b
   front-addresses n e d =
       rw (e, d, bytesOfAll-numbers addressWidth types (part from to b) (bytes-part from to b h) (length-part from to b l m ∙ n)) (take-part from to b l)
 

@@ -24,12 +24,15 @@ use Prim.Native.Nat.{ℕ, _+_, _*_, _≤_, _<_}
 use lib.ListN.{length, take, drop, getD}
 use Rattle.pages.specs.Pages.{PageSize}
 use Rattle.little.specs.Little.{valueAt, Bytes}
-use Rattle.message.specs.declared.fields.Fields.{Fields}
-use Rattle.message.specs.declared.fields.Read.{Read}
-use Rattle.message.specs.declared.fields.Answer.{Answer}
-use Rattle.message.specs.declared.fields.Answer.the-variants.{Done}
-use Rattle.message.specs.Layout.{versionAt, strategyAt, persistAt, thresholdAt, pageAt, pageEndAt, eoaAt, smallAt, largeAt, messageLength, types, addressWidth}
-use Rattle.message.specs.Message.{numberOf, version, lastStrategy, lastPersist, undefined, lengthOf, Held, noFields, readAnswer, reading, following, written, Wrote}
+use Rattle.message_fields.specs.declared.Fields.{Fields}
+use Rattle.message_fields.specs.declared.Read.{Read}
+use Rattle.message_fields.specs.declared.Answer.{Answer}
+use Rattle.message_fields.specs.declared.Answer.the-variants.{Done}
+use Rattle.message_fields.specs.Fields.{numberOf, version, lengthOf, Held, noFields}
+use Rattle.message_fields.specs.Layout.{versionAt, strategyAt, persistAt, thresholdAt, pageAt, pageEndAt, eoaAt, smallAt, largeAt}
+use Rattle.message_fields.specs.Layout.{messageLength, types, addressWidth}
+use Rattle.message_fields.specs.Legal.{lastStrategy, lastPersist, undefined}
+use Rattle.message.specs.Message.{readAnswer, reading, following, written, Wrote}
 
 -- ---- the fields
 

@@ -1,25 +1,21 @@
 // The File Space Info message, version 1: read out of the part of a header block that starts at the message, written into one, and the part
 // of the block that follows it. No public call has a `requires`: what breaks a rule is refused.
-pub mod fields;
-mod legal;
-mod parts;
-
-pub use fields::Answer;
-pub use fields::Fields;
-pub use fields::Read;
-pub use fields::Refusal;
-pub use fields::number_of;
+pub use message_fields::Answer;
+pub use message_fields::Fields;
+pub use message_fields::Read;
+pub use message_fields::Refusal;
+pub use message_fields::number_of;
 ghost use mathlib.Core.Path.{_≡_};
 ghost use Rattle.message.specs.Message.{reading, following, Wrote};
-use fields::LEAST_LENGTH;
-use fields::VERSION;
-use fields::VERSION_AT;
-use fields::follows_at;
-use fields::length_of;
-use fields::refused;
-use legal::is_legal;
-use parts::fields_of;
-use parts::put_fields;
+use message_bytes::fields_of;
+use message_bytes::put_fields;
+use message_fields::LEAST_LENGTH;
+use message_fields::VERSION;
+use message_fields::VERSION_AT;
+use message_fields::follows_at;
+use message_fields::legal::is_legal;
+use message_fields::length_of;
+use message_fields::refused;
 
 // The fields of the message that the bytes start with, or why there is none.
 pub fn read(bytes: &[u8]) -> Read

@@ -5,10 +5,10 @@ use lib.ListN.{getD}
 use borrow.Author.Needs.{needs}
 use Rattle.little.proofs.LittleLaws.{value-byte}
 use Rattle.little.specs.Little.{valueAt}
-use Rattle.message.proofs.ByteLaws.{reading-refused, reading-done}
-use Rattle.message.proofs.RuleLaws.{read-short, read-version, read-field, read-done}
-use Rattle.message.specs.Layout.{versionAt, strategyAt}
-use Rattle.message.specs.Message.{version, legalb}
+use Rattle.message.proofs.AnswerLaws.{read-short, read-version, read-field, read-done, reading-refused, reading-done}
+use Rattle.message_fields.specs.Layout.{versionAt, strategyAt}
+use Rattle.message_fields.specs.Fields.{version}
+use Rattle.message_fields.specs.Legal.{legalb}
 use Rattle.message.proofs.read.Statement.{statement}
 use Rattle.message.proofs.read.Tie as tie
 

@@ -6,8 +6,9 @@ use native.Mathlib.Omega.{arith}
 use lib.ListN.{length, drop, length-drop}
 use lib.Seq.{take-all}
 use borrow.Author.Needs.{needs}
-use Rattle.message.proofs.ByteLaws.{follows-fits}
-use Rattle.message.specs.Message.{reading, followsAt, following}
+use Rattle.message.proofs.AnswerLaws.{follows-fits}
+use Rattle.message.specs.Message.{reading, following}
+use Rattle.message_fields.specs.Fields.{followsAt}
 use Rattle.message.proofs.rest.Statement.{statement}
 use Rattle.message.proofs.rest.Tie as tie
 

@@ -2,11 +2,10 @@
 -- Assumes nothing.
 use mathlib.Core.Path.{sym, _∙_}
 use native.Mathlib.Omega.{arith}
-use lib.ListN.{length, getD}
+use lib.ListN.{getD}
 use borrow.Author.Needs.{needs}
-use Rattle.message.proofs.ByteLaws.{written-refused, written-done}
-use Rattle.message.proofs.RuleLaws.{write-field, write-short, write-done}
-use Rattle.message.specs.Message.{Held}
+use Rattle.message.proofs.AnswerLaws.{wrote-field, wrote-short, wrote-done}
+use Rattle.message_fields.specs.Fields.{Held}
 use mir.Syntax.{w64}
 use mir.Val.{Fits}
 use Rattle.message.proofs.write.Statement.{statement}
@@ -35,9 +34,10 @@ length-of-requires : tie.Need-length-of-requires
 length-of-requires c κs = search needs
 
 returns : tie.Need-returns
-returns c = let a = c .before .before .before .before .before .args in
-    let w = write-short (a .fields) (length (a .out .now)) (sym (c .before .before .before .is-legal .ensures) ∙ c .before .before .if1 .taken) (omega arith) in
-    record { held = held (c .before .before .before .before .before); answer = sym w; bytes = sym (written-refused (a .fields) (a .out .now) w) }
+returns c =
+    let start = c .before .before .before .before .before in
+    let legal = sym (c .before .before .before .is-legal .ensures) ∙ c .before .before .if1 .taken in
+    wrote-short (start .args .fields) (start .args .out .now) (held start) legal (omega arith)
 
 put-fields-requires : tie.Need-put-fields-requires
 put-fields-requires c κs = search needs
@@ -46,14 +46,18 @@ same-length : tie.Need-same-length
 same-length c = search needs
 
 returns-2 : tie.Need-returns-2
-returns-2 c = let a = c .before .before .before .before .before .before .before .before .before .args in
-    let w = write-done (a .fields) (length (a .out .now)) (sym (c .before .before .before .before .before .before .before .is-legal .ensures) ∙ c .before .before .before .before .before .before .if1 .taken) (omega arith) in
-    record { held = held (c .before .before .before .before .before .before .before .before .before); answer = sym w; bytes = c .before .before .put-fields .ensures ∙ sym (written-done (a .fields) (a .out .now) w) }
+returns-2 c =
+    let put = c .before .before in
+    let tested = put .before .before .before .before in
+    let start = tested .before .before .before in
+    let legal = sym (tested .before .is-legal .ensures) ∙ tested .if1 .taken in
+    wrote-done (start .args .fields) (start .args .out .now) (held start) legal (omega arith) (put .put-fields .ensures)
 
 returns-3 : tie.Need-returns-3
-returns-3 c = let a = c .before .before .before .args in
-    let w = write-field (a .fields) (length (a .out .now)) (sym (c .before .is-legal .ensures) ∙ c .if1 .left) in
-    record { held = held (c .before .before .before); answer = sym w; bytes = sym (written-refused (a .fields) (a .out .now) w) }
+returns-3 c =
+    let start = c .before .before .before in
+    let legal = sym (c .before .is-legal .ensures) ∙ c .if1 .left in
+    wrote-field (start .args .fields) (start .args .out .now) (held start) legal
 
 pub write-spec : {M : Type 1} → statement M
 write-spec =

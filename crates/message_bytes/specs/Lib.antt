@@ -1,0 +1,2 @@
+-- What the contracts of `message_bytes` cite, and those of `message`.
+pub mod Parts

@@ -1,0 +1,95 @@
+// The fields of a message in bytes: each is read out of its part of a slice, and written into it.
+ghost use mathlib.Core.Path.{_≡_};
+ghost use Prim.Native.Nat.{_≤_};
+ghost use mathlib.Core.List.{_++_};
+ghost use lib.ListN.{length, drop};
+ghost use Rattle.little.specs.Little.{bytesOfAll};
+ghost use Rattle.message_fields.specs.Layout.{smallAt, messageLength, addressWidth, addressesLength};
+ghost use Rattle.message_bytes.specs.Parts.{addressesOf, fieldsOf, headOf, messageOf};
+use message_fields::ADDRESS_WIDTH;
+use message_fields::EOA_AT;
+use message_fields::Fields;
+use message_fields::LARGE_AT;
+use message_fields::MESSAGE_LENGTH;
+use message_fields::PAGE_AT;
+use message_fields::PAGE_END_AT;
+use message_fields::PERSIST_AT;
+use message_fields::SMALL_AT;
+use message_fields::STRATEGY_AT;
+use message_fields::THRESHOLD_AT;
+use message_fields::TYPES;
+use message_fields::VERSION;
+use message_fields::VERSION_AT;
+
+// The addresses of one part, one for each type.
+fn addresses(part: &[u8]) -> [u64; TYPES]
+    requires { ⌜ length (now part) ≡ addressesLength ⌝ }
+    ensures { λ r. ⌜ r ≡ addressesOf (now (part .entry)) ⌝ }
+{
+    let mut found = [0u64; TYPES];
+    let mut i = 0;
+    while i < TYPES {
+        let at = i * ADDRESS_WIDTH;
+        found[i] = little::get_part(part, at, at + ADDRESS_WIDTH);
+        i += 1;
+    }
+    found
+}
+
+// The fields of a message that is there in full.
+pub fn fields_of(bytes: &[u8]) -> Fields
+    requires { ⌜ messageLength ≤ length (now bytes) ⌝ }
+    ensures { λ r. ⌜ r ≡ fieldsOf (now (bytes .entry)) ⌝ }
+{
+    let small = addresses(&bytes[SMALL_AT..LARGE_AT]);
+    let large = addresses(&bytes[LARGE_AT..MESSAGE_LENGTH]);
+    Fields {
+        strategy: bytes[STRATEGY_AT],
+        persist: bytes[PERSIST_AT],
+        threshold: little::get_part(bytes, THRESHOLD_AT, PAGE_AT),
+        page: little::get_part(bytes, PAGE_AT, PAGE_END_AT),
+        page_end: little::get_part(bytes, PAGE_END_AT, EOA_AT) as u16,
+        eoa: little::get_part(bytes, EOA_AT, SMALL_AT),
+        small: small,
+        large: large,
+    }
+}
+
+// Writes the addresses of one part.
+fn put_addresses(addresses: [u64; TYPES], part: &mut [u8])
+    requires { ⌜ length (now part) ≡ addressesLength ⌝ }
+    ensures { λ _. ⌜ now (part .exit) ≡ bytesOfAll addressWidth addresses ⌝ }
+{
+    let mut i = 0;
+    while i < TYPES {
+        let at = i * ADDRESS_WIDTH;
+        little::put_part(addresses[i], part, at, at + ADDRESS_WIDTH);
+        i += 1;
+    }
+}
+
+// Writes the fields that stand before the addresses.
+fn put_head(fields: Fields, head: &mut [u8])
+    requires { ⌜ length (now head) ≡ smallAt ⌝ }
+    ensures { λ _. ⌜ now (head .exit) ≡ headOf fields ⌝ }
+{
+    head[VERSION_AT] = VERSION;
+    head[STRATEGY_AT] = fields.strategy;
+    head[PERSIST_AT] = fields.persist;
+    little::put_part(fields.threshold, head, THRESHOLD_AT, PAGE_AT);
+    little::put_part(fields.page, head, PAGE_AT, PAGE_END_AT);
+    little::put_part(fields.page_end as u64, head, PAGE_END_AT, EOA_AT);
+    little::put_part(fields.eoa, head, EOA_AT, SMALL_AT);
+}
+
+// Writes the message of the fields to the front of `out`.
+pub fn put_fields(fields: Fields, out: &mut [u8])
+    requires { ⌜ messageLength ≤ length (now out) ⌝ }
+    ensures { λ _. ⌜ now (out .exit) ≡ messageOf fields ++ drop messageLength (now (out .entry)) ⌝ }
+{
+    put_head(fields, &mut out[VERSION_AT..SMALL_AT]);
+    let small = fields.small;
+    put_addresses(small, &mut out[SMALL_AT..LARGE_AT]);
+    let large = fields.large;
+    put_addresses(large, &mut out[LARGE_AT..MESSAGE_LENGTH]);
+}

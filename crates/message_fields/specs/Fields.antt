@@ -1,0 +1,80 @@
+-- What a message holds, and what a call on one answers.
+--
+--   version               the version of every message
+--   Held f                the fields f have the widths of the message, as every value of the struct has
+--   leastLength           no message is shorter
+--   lengthOf f            how long the message of f is
+--   noFields              the fields of a refused message: all 0
+--
+--   numberOf a            document 01's number for an answer
+--   whenDone a x y        x where the answer is done, y where it is a refusal
+--   refusedRead r         what reading hands back with the refusal r
+--   followsAt r           where the part behind the read message r starts: at the front on a refusal
+--
+-- Assumes nothing. Laws are in proofs/FieldLaws.antt.
+use mathlib.Core.Path.{_≡_}
+use Prim.Native.Nat.{ℕ, _-_, _^_, _<_}
+use lib.ListN.{length, replicate}
+use Rattle.little.specs.Little.{byteValues, Below}
+use Rattle.message_fields.specs.declared.Fields.{Fields}
+use Rattle.message_fields.specs.declared.Read.{Read}
+use Rattle.message_fields.specs.declared.Refusal.{Refusal}
+use Rattle.message_fields.specs.declared.Refusal.the-variants.{Short, Version, Field}
+use Rattle.message_fields.specs.declared.Answer.{Answer}
+use Rattle.message_fields.specs.declared.Answer.the-variants.{Done, Refused}
+use Rattle.message_fields.specs.Layout.{strategyAt, persistAt, thresholdAt, pageAt, pageEndAt, eoaAt, smallAt}
+use Rattle.message_fields.specs.Layout.{messageLength, types, addressWidth}
+
+-- ---- the fields
+
+abbrev pub version : ℕ
+version = 1
+
+pub record Held (f : Fields) : Type 0 where
+  pub strategy : f .strategy < byteValues ^ (persistAt - strategyAt)
+  pub persist : f .persist < byteValues ^ (thresholdAt - persistAt)
+  pub threshold : f .threshold < byteValues ^ (pageAt - thresholdAt)
+  pub page : f .page < byteValues ^ (pageEndAt - pageAt)
+  pub page-end : f .«page_end» < byteValues ^ (eoaAt - pageEndAt)
+  pub eoa : f .eoa < byteValues ^ (smallAt - eoaAt)
+  pub six-small : length (f .small) ≡ types
+  pub small : Below addressWidth (f .small)
+  pub six-large : length (f .large) ≡ types
+  pub large : Below addressWidth (f .large)
+
+abbrev pub leastLength : ℕ
+leastLength = messageLength
+
+abbrev pub lengthOf : Fields → ℕ
+lengthOf f = messageLength
+
+unfoldable pub noFields : Fields
+noFields =
+    record {
+      strategy = 0;
+      persist = 0;
+      threshold = 0;
+      page = 0;
+      «page_end» = 0;
+      eoa = 0;
+      small = replicate types 0;
+      large = replicate types 0;
+    }
+
+-- ---- the answers
+
+abbrev pub numberOf : Answer → ℕ
+numberOf Done = 0
+numberOf (Refused Short) = 10
+numberOf (Refused Version) = 11
+numberOf (Refused Field) = 12
+
+abbrev pub whenDone : {A : Type 0} → Answer → A → A → A
+whenDone Done x y = x
+whenDone (Refused r) x y = y
+
+unfoldable pub refusedRead : Refusal → Read
+refusedRead r = record { answer = Refused r; fields = noFields }
+
+unfoldable pub followsAt : Read → ℕ
+followsAt r = whenDone (r .answer) (lengthOf (r .fields)) 0

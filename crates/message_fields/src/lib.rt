@@ -1,0 +1,127 @@
+// What a File Space Info message holds and what a call on one answers: the fields with their places in bytes, the answers with their numbers,
+// and the rules that the fields keep (legal.rt).
+pub mod legal;
+
+ghost use mathlib.Core.Path.{_≡_};
+ghost use Rattle.message_fields.specs.Fields.{numberOf, noFields, refusedRead, lengthOf, followsAt};
+
+// Where each field starts: it ends where the next one starts, and the last one where the message does.
+pub const VERSION_AT: usize = 0;
+
+pub const STRATEGY_AT: usize = 1;
+
+pub const PERSIST_AT: usize = 2;
+
+pub const THRESHOLD_AT: usize = 3;
+
+pub const PAGE_AT: usize = 11;
+
+pub const PAGE_END_AT: usize = 19;
+
+pub const EOA_AT: usize = 21;
+
+pub const SMALL_AT: usize = 29;
+
+pub const LARGE_AT: usize = 77;
+
+pub const MESSAGE_LENGTH: usize = 125;
+
+// The addresses of the small managers, and of the large ones: one for each type, of this width.
+pub const TYPES: usize = 6;
+
+pub const ADDRESS_WIDTH: usize = 8;
+
+// No message is shorter than this.
+pub const LEAST_LENGTH: usize = MESSAGE_LENGTH;
+
+pub const VERSION: u8 = 1;
+
+// The fields but for the version. The type order is superblock, B-tree, raw, global heap, local heap, object header.
+pub struct Fields {
+    pub strategy: u8,
+    pub persist: u8,
+    pub threshold: u64,
+    pub page: u64,
+    pub page_end: u16,
+    pub eoa: u64,
+    pub small: [u64; TYPES],
+    pub large: [u64; TYPES],
+}
+
+pub enum Refusal {
+    Short,
+    Version,
+    Field,
+}
+
+pub enum Answer {
+    Done,
+    Refused(Refusal),
+}
+
+// The answer stands beside the fields, which are all 0 where the message is refused.
+pub struct Read {
+    pub answer: Answer,
+    pub fields: Fields,
+}
+
+// Document 01's number for an answer.
+pub fn number_of(answer: Answer) -> u64
+    ensures { λ r. ⌜ r ≡ numberOf answer ⌝ }
+{
+    match answer {
+        Answer::Done => 0,
+        Answer::Refused(why) => match why {
+            Refusal::Short => 10,
+            Refusal::Version => 11,
+            Refusal::Field => 12,
+        },
+    }
+}
+
+// How long the message of the fields is.
+pub fn length_of(_fields: Fields) -> usize
+    ensures { λ r. ⌜ r ≡ lengthOf «_fields» ⌝ }
+{
+    MESSAGE_LENGTH
+}
+
+// Where the part behind the message starts: at the front where the message is refused.
+pub fn follows_at(message: Read) -> usize
+    ensures { λ r. ⌜ r ≡ followsAt message ⌝ }
+{
+    let answer = message.answer;
+    match answer {
+        Answer::Done => {
+            let fields = message.fields;
+            length_of(fields)
+        }
+        Answer::Refused(_) => 0,
+    }
+}
+
+// The fields of a refused message: all 0.
+pub fn no_fields() -> Fields
+    ensures { λ r. ⌜ r ≡ noFields ⌝ }
+{
+    Fields {
+        strategy: 0,
+        persist: 0,
+        threshold: 0,
+        page: 0,
+        page_end: 0,
+        eoa: 0,
+        small: [0; TYPES],
+        large: [0; TYPES],
+    }
+}
+
+// A refused message.
+pub fn refused(why: Refusal) -> Read
+    ensures { λ r. ⌜ r ≡ refusedRead why ⌝ }
+{
+    Read {
+        answer: Answer::Refused(why),
+        fields: no_fields(),
+    }
+}
