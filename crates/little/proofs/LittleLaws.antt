@@ -1,8 +1,7 @@
 -- The laws of numbers in bytes, over the width.
 --
 -- In this order: parts of bytes are bytes; `little` of one byte more, and its bound; `bytesOf` and how it and `little` undo each other; the
--- same of several numbers; parts at places; one number more, as a
--- loop over several goes on.
+-- same of several numbers; parts at places; one number more, as a loop over several goes on.
 --
 -- Not here: laws of lists (lib.Seq), of `/`, `%` and `^` (native.Mathlib.Nat). Assumes nothing.
 use Prim.Native.Nat.{ℕ, zero, suc, _+_, _-_, _*_, _/_, _%_, _^_, _≤_, _<_, zero-le}
@@ -13,7 +12,8 @@ use native.Mathlib.Numerals.{add-one}
 use native.Mathlib.Omega.{arith}
 use lib.Dec.{lit<}
 use lib.ListN.{length, take, drop, getD, set, length-append, length-take, length-drop, take-append-drop, drop-of-length-le}
-use lib.Seq.{drop-cons, length-take-le, take-all, take-suc, take-suc-set, append-snoc, getD-drop, take-at, drop-at, drop-append-add, drop-drop, set-split, take-take, take-add, take-nil}
+use lib.Seq.{drop-cons, length-take-le, take-all, take-suc, take-suc-set, append-snoc, getD-drop, take-at, drop-at, drop-append-add}
+use lib.Seq.{drop-drop, set-split, take-take, take-add, take-nil}
 use borrow.Rule.Slice.PartMut.{putMid, post-is}
 use Rattle.little.specs.Little.{byteValues, little, bytesOf, numbers, bytesOfAll, part, valueAt, laid, Bytes, Below}
 
@@ -290,5 +290,6 @@ bytesOfAll-up w i vs s h e =
     rw (add-one, take-suc vs i 0 h, bytesOfAll-append, bytesOfAll-one, width-at i w) in
     rw (t, g) (laid-number s (i * w + w) (getD vs i 0) (omega arith) e)
 
-pub bytesOfAll-end : (w i : ℕ) (vs : List ℕ) {b c : List ℕ} → Laid b (bytesOfAll w (take i vs)) c (i * w) → length vs ≤ i → length b ≤ i * w → c ≡ bytesOfAll w vs
+pub bytesOfAll-end : (w i : ℕ) (vs : List ℕ) {b c : List ℕ} → Laid b (bytesOfAll w (take i vs)) c (i * w) → length vs ≤ i → length b ≤ i * w
+    → c ≡ bytesOfAll w vs
 bytesOfAll-end w i vs {b} s h l = s .whole ∙ rw (take-all i vs h, drop-of-length-le b l, append-nil)

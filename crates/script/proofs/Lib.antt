@@ -1,4 +1,5 @@
 -- The laws of `script`, one file for each file of specs/.
-pub mod WordLaws
-pub mod NumberLaws
-pub mod ByteLaws
+pub mod LineLaws
+pub mod DecimalLaws
+pub mod LaidLaws
+pub mod HexLaws

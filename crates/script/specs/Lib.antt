@@ -1,5 +1,5 @@
--- What the contracts of `script` cite. Words, Numbers, Bytes, Laid; what is proved of them stands at the end of Words and Numbers.
-pub mod Words
-pub mod Numbers
-pub mod Bytes
+-- What the contracts of `script` cite. Line, Decimal, Hex, Laid; what is proved of them stands at the end of Line and Decimal.
+pub mod Line
+pub mod Decimal
+pub mod Hex
 pub mod Laid

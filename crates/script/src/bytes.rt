@@ -4,8 +4,8 @@ ghost use mathlib.Core.Bool.{true};
 ghost use Prim.Native.Nat.{_/_, _≤_, _<_};
 ghost use lib.ListN.{length};
 ghost use lib.Seq.{paste};
-ghost use Rattle.script.specs.Words.{every};
-ghost use Rattle.script.specs.Bytes.{noNibble, nibbleOf, nibbleb, hexb, bytesSaid, glyphOf};
+ghost use Rattle.script.specs.Line.{every};
+ghost use Rattle.script.specs.Hex.{noNibble, nibbleOf, nibbleb, hexb, bytesSaid, glyphOf};
 
 const BASE: u8 = 16;
 

@@ -2,8 +2,8 @@
 ghost use mathlib.Core.Path.{_≡_};
 ghost use mathlib.Core.Bool.{true};
 ghost use Prim.Native.Nat.{_-_, _≤_};
-ghost use Rattle.script.specs.Words.{every};
-ghost use Rattle.script.specs.Numbers.{digitb, valueFrom, longerBy, fitting, numberSaid};
+ghost use Rattle.script.specs.Line.{every};
+ghost use Rattle.script.specs.Decimal.{digitb, valueFrom, longerBy, fitting, numberSaid};
 
 const ZERO: u8 = b'0';
 

@@ -1,9 +1,9 @@
-// The words of a line: runs of bytes that are no blanks. A line ends before its comment.
+// The lines of a text, and the words of a line: runs of bytes that are no blanks. A line ends before its comment.
 ghost use mathlib.Core.Path.{_≡_};
 ghost use mathlib.Core.Bool.{true};
 ghost use Prim.Native.Nat.{_+_, _^_, _<_, _≤_};
 ghost use lib.ListN.{length, drop};
-ghost use Rattle.script.specs.Words.{blankb, letterb, plainb, Ends, WordAt, starts, wordsIn, sameb};
+ghost use Rattle.script.specs.Line.{blankb, letterb, otherb, plainb, insideb, Ends, WordAt, starts, wordsIn, sameb};
 
 const SPACE: u8 = b' ';
 
@@ -12,6 +12,8 @@ const TAB: u8 = b'\t';
 const RETURN: u8 = b'\r';
 
 const COMMENT: u8 = b'#';
+
+const LINE_END: u8 = b'\n';
 
 // Where a word starts, and where it ends.
 pub struct Word {
@@ -107,18 +109,34 @@ fn counted(count: usize, was: bool, is: bool) -> usize
     count
 }
 
-// Where the comment starts, or the line ends.
-pub fn comment_at(line: &[u8]) -> usize
-    ensures { λ r. ⌜ Ends plainb (now (line .entry)) 0 r ⌝ }
+// Where this byte stands first from `from` on, or the text ends.
+fn next_byte(text: &[u8], from: usize, byte: u8) -> usize
+    requires { ⌜ from ≤ length (now text) ⌝ }
+    ensures { λ r. ⌜ Ends (otherb byte) (now (text .entry)) from r ⌝ }
 {
-    let mut i = 0;
-    while i < line.len() {
-        if line[i] == COMMENT {
+    let mut i = from;
+    while i < text.len() {
+        if text[i] == byte {
             return i;
         }
         i += 1;
     }
     i
+}
+
+// Where the comment starts, or the line ends.
+pub fn comment_at(line: &[u8]) -> usize
+    ensures { λ r. ⌜ Ends plainb (now (line .entry)) 0 r ⌝ }
+{
+    next_byte(line, 0, COMMENT)
+}
+
+// Where the line ends that starts at `from`: at its line end, or where the text ends.
+pub fn line_end(text: &[u8], from: usize) -> usize
+    requires { ⌜ from ≤ length (now text) ⌝ }
+    ensures { λ r. ⌜ Ends insideb (now (text .entry)) from r ⌝ }
+{
+    next_byte(text, from, LINE_END)
 }
 
 // Whether a word is this text.

@@ -12,7 +12,8 @@ use Rattle.little.proofs.put.Statement.{statement}
 use Rattle.little.proofs.put.Tie as tie
 
 abbrev Inv-loop : tie.InvT-loop
-Inv-loop value out₀ rest₀ i₀ out rest i = (i ≤ length out₀) × ((length out ≡ length out₀) × (take i out ++ bytesOf (length out₀ - i) rest ≡ bytesOf (length out₀) value))
+Inv-loop value out₀ rest₀ i₀ out rest i =
+    (i ≤ length out₀) × ((length out ≡ length out₀) × (take i out ++ bytesOf (length out₀ - i) rest ≡ bytesOf (length out₀) value))
 
 abbrev μ-loop : tie.MeasureT-loop
 μ-loop value out₀ rest₀ i₀ out rest i = length out₀ - i
@@ -33,15 +34,22 @@ loop-less : tie.Need-loop-less Inv-loop μ-loop
 loop-less c = search needs
 
 loop-again : tie.Need-loop-again Inv-loop μ-loop
-loop-again c = let l = c .before .loop in
-    let s : l .i < length (c .before .before .args .out .now) = search needs in (search needs, (simp length-set (l .inv .1 .0), bytesOf-up (l .out) (l .i) (length (c .before .before .args .out .now)) (l .rest) s (l .inv .1 .0) ∙ l .inv .1 .1))
+loop-again c =
+    let l = c .before .loop in
+    let n = length (c .before .before .args .out .now) in
+    let among : l .i < n = search needs in
+    let next = bytesOf-up (l .out) (l .i) n (l .rest) among (l .inv .1 .0) in
+    (search needs, (simp length-set (l .inv .1 .0), next ∙ l .inv .1 .1))
 
 same-length : tie.Need-same-length Inv-loop μ-loop
 same-length c = search needs
 
 returns : tie.Need-returns Inv-loop μ-loop
-returns c = let l = c .before .loop in
-    let s : length (c .before .before .args .out .now) ≤ l .i = search needs in sym (bytesOf-end (l .out) (l .i) (length (c .before .before .args .out .now)) (l .rest) s (l .inv .1 .0)) ∙ l .inv .1 .1
+returns c =
+    let l = c .before .loop in
+    let n = length (c .before .before .args .out .now) in
+    let past : n ≤ l .i = search needs in
+    sym (bytesOf-end (l .out) (l .i) n (l .rest) past (l .inv .1 .0)) ∙ l .inv .1 .1
 
 pub put-spec : {M : Type 1} → statement M
 put-spec =

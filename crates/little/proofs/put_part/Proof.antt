@@ -1,7 +1,7 @@
 -- `little::put_part` meets its contract: the part that comes back holds the bytes of the value, and the rest is as it was.
 -- Assumes nothing.
-use Prim.Native.Nat.{_-_, ℕ}
-use mathlib.Core.Path.{_≡_, ap, _∙_}
+use Prim.Native.Nat.{ℕ}
+use mathlib.Core.Path.{ap, _∙_}
 use borrow.Author.Needs.{needs}
 use Rattle.little.proofs.LittleLaws.{length-part, laid-back}
 use Rattle.little.specs.Little.{bytesOf}
@@ -24,10 +24,11 @@ same-length : tie.Need-same-length
 same-length c = search needs
 
 returns : tie.Need-returns
-returns c = let a = c .before .before .before .before .before .args in
-    let b = a .out .now in
-    let e : c .before .before .put .last .1 .0 ≡ bytesOf (a .to - a .from) (a .value) = c .before .before .put .ensures ∙ ap (λ (n : ℕ). bytesOf n (a .value)) (length-part (a .from) (a .to) b (search needs) (search needs)) in
-    laid-back (a .from) (a .to) b (search needs) e
+returns c =
+    let put = c .before .before in
+    let a = put .before .before .before .args in
+    let long = length-part (a .from) (a .to) (a .out .now) (search needs) (search needs) in
+    laid-back (a .from) (a .to) (a .out .now) (search needs) (put .put .ensures ∙ ap (λ (n : ℕ). bytesOf n (a .value)) long)
 
 pub put-part-spec : {M : Type 1} → statement M
 put-part-spec =

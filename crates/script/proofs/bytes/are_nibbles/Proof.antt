@@ -7,9 +7,9 @@ use lib.Dec.{eqb}
 use lib.ListN.{length, drop}
 use borrow.Author.Needs.{needs}
 use borrow.Author.Tests.{eq-eqb, ne-eqb}
-use Rattle.script.proofs.WordLaws.{every-next, every-stop, every-end}
-use Rattle.script.specs.Bytes.{nibbleb, noNibble}
-use Rattle.script.specs.Words.{every}
+use Rattle.script.proofs.LineLaws.{every-next, every-stop, every-end}
+use Rattle.script.specs.Hex.{nibbleb, noNibble}
+use Rattle.script.specs.Line.{every}
 use Rattle.script.proofs.bytes.are_nibbles.Statement.{statement}
 use Rattle.script.proofs.bytes.are_nibbles.Tie as tie
 
@@ -29,7 +29,8 @@ nibble-requires : tie.Need-nibble-requires Inv-loop μ-loop
 nibble-requires c κs = search needs
 
 returns : tie.Need-returns Inv-loop μ-loop
-returns c = let l = c .before .before .before .before .loop in
+returns c =
+    let l = c .before .before .before .before .loop in
     let w = c .before .before .before .before .before .before .args .word .now in
     let among : l .i < length w = search needs in
     let none = ap (λ v. not (eqb v noNibble)) (sym (c .before .nibble .ensures .0)) ∙ ap not (eq-eqb _ _ (c .if1 .taken)) in
@@ -42,16 +43,19 @@ loop-less : tie.Need-loop-less Inv-loop μ-loop
 loop-less c = search needs
 
 loop-again : tie.Need-loop-again Inv-loop μ-loop
-loop-again c = let l = c .before .before .before .before .loop in
+loop-again c =
+    let l = c .before .before .before .before .loop in
     let w = c .before .before .before .before .before .before .args .word .now in
     let among : l .i < length w = search needs in
     let digit = ap (λ v. not (eqb v noNibble)) (sym (c .before .nibble .ensures .0)) ∙ ap not (ne-eqb _ _ (c .if1 .left)) in
     (search needs, sym (every-next nibbleb w (l .i) among digit) ∙ l .inv .1)
 
 returns-2 : tie.Need-returns-2 Inv-loop μ-loop
-returns-2 c = let l = c .before .loop in
-    let past : length (c .before .before .before .args .word .now) ≤ l .i = search needs in
-    sym (every-end nibbleb (c .before .before .before .args .word .now) (l .i) past) ∙ l .inv .1
+returns-2 c =
+    let l = c .before .loop in
+    let w = c .before .before .before .args .word .now in
+    let past : length w ≤ l .i = search needs in
+    sym (every-end nibbleb w (l .i) past) ∙ l .inv .1
 
 pub are-nibbles-spec : {M : Type 1} → statement M
 are-nibbles-spec =

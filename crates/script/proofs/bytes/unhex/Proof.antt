@@ -3,11 +3,11 @@
 use Prim.Native.Nat.{_/_, _≤_, _<_, _-_, _+_, _*_}
 use mathlib.Core.Path.{_≡_, refl, ap, _∙_}
 use native.Mathlib.Omega.{arith}
-use lib.ListN.{length-set, length, getD}
+use lib.ListN.{length-set, length}
 use lib.Seq.{paste, paste-zero}
 use borrow.Author.Needs.{needs}
-use Rattle.script.proofs.ByteLaws.{below-at, getD-bytes, said-next}
-use Rattle.script.specs.Bytes.{bytesSaid}
+use Rattle.script.proofs.HexLaws.{below-at, said-next}
+use Rattle.script.specs.Hex.{bytesSaid}
 use Rattle.script.proofs.bytes.unhex.Statement.{statement}
 use Rattle.script.proofs.bytes.unhex.Tie as tie
 
@@ -18,7 +18,9 @@ abbrev μ-loop : tie.MeasureT-loop
 μ-loop word out₀ n i₀ out i = n - i
 
 loop-holds : tie.Need-loop-holds Inv-loop μ-loop
-loop-holds c = ((search needs, refl), paste-zero (c .before .before .args .out .now) 0 (bytesSaid (c .before .before .args .word .now)))
+loop-holds c =
+    let a = c .before .before .args in
+    ((search needs, refl), paste-zero (a .out .now) 0 (bytesSaid (a .word .now)))
 
 mul-nibble : tie.Need-mul-nibble Inv-loop μ-loop
 mul-nibble c = search needs
@@ -30,9 +32,12 @@ nibble-requires : tie.Need-nibble-requires Inv-loop μ-loop
 nibble-requires c κs = search needs
 
 mul-out : tie.Need-mul-out Inv-loop μ-loop
-mul-out c = let l = c .before .before .before .loop in let w = c .before .before .before .before .before .before .args .word .now in
+mul-out c =
+    let l = c .before .before .before .loop in
+    let start = c .before .before .before .before .before .before in
+    let w = start .args .word .now in
     let high : l .i * 2 < length w = omega arith in
-    omega (arith, below-at w (l .i * 2) (c .nibble .result) (c .before .before .before .before .before .before .pre .0) high (c .nibble .ensures))
+    omega (arith, below-at w (l .i * 2) (c .nibble .result) (start .pre .0) high (c .nibble .ensures))
 
 mul-nibble-2 : tie.Need-mul-nibble-2 Inv-loop μ-loop
 mul-nibble-2 c = search needs
@@ -47,10 +52,15 @@ nibble-requires-2 : tie.Need-nibble-requires-2 Inv-loop μ-loop
 nibble-requires-2 c κs = search needs
 
 add-out : tie.Need-add-out Inv-loop μ-loop
-add-out c = let l = c .before .before .before .before .before .loop in let w = c .before .before .before .before .before .before .before .before .args .word .now in
+add-out c =
+    let first = c .before .before .nibble in
+    let l = c .before .before .before .before .before .loop in
+    let start = c .before .before .before .before .before .before .before .before in
+    let w = start .args .word .now in
     let high : l .i * 2 < length w = omega arith in
     let low : l .i * 2 + 1 < length w = omega arith in
-    omega (arith, below-at w (l .i * 2) (c .before .before .nibble .result) (c .before .before .before .before .before .before .before .before .pre .0) high (c .before .before .nibble .ensures), below-at w (l .i * 2 + 1) (c .nibble2 .result) (c .before .before .before .before .before .before .before .before .pre .0) low (c .nibble2 .ensures))
+    let high-digit = below-at w (l .i * 2) (first .result) (start .pre .0) high (first .ensures) in
+    omega (arith, high-digit, below-at w (l .i * 2 + 1) (c .nibble2 .result) (start .pre .0) low (c .nibble2 .ensures))
 
 slice-write-out : tie.Need-slice-write-out Inv-loop μ-loop
 slice-write-out c = search needs
@@ -62,19 +72,26 @@ loop-less : tie.Need-loop-less Inv-loop μ-loop
 loop-less c = search needs
 
 loop-again : tie.Need-loop-again Inv-loop μ-loop
-loop-again c = let l = c .before .before .before .before .before .loop in let w = c .before .before .before .before .before .before .before .before .args .word .now in let d = c .before .before .before .before .before .before .before .before .args .out .now in
+loop-again c =
+    let first = c .before .before .nibble in
+    let l = c .before .before .before .before .before .loop in
+    let a = c .before .before .before .before .before .before .before .before .args in
+    let w = a .word .now in
     let half : l .i < length w / 2 = search needs in
-    let room : l .i < length d = omega arith in
-    let byte : c .before .before .nibble .result * 16 + c .nibble2 .result ≡ getD (bytesSaid w) (l .i) 0 = omega (arith, getD-bytes w (l .i) half, c .before .before .nibble .ensures .0, c .nibble2 .ensures .0) in
-    ((search needs, simp length-set (l .inv .0 .1)), said-next d (l .out) w (l .i) _ (l .inv .1) half room byte)
+    let room : l .i < length (a .out .now) = omega arith in (
+      (search needs, simp length-set (l .inv .0 .1)),
+      said-next (a .out .now) w (l .i) (l .inv .1) half room (omega (arith, first .ensures .0, c .nibble2 .ensures .0)),
+    )
 
 same-length : tie.Need-same-length Inv-loop μ-loop
 same-length c = search needs
 
 returns : tie.Need-returns Inv-loop μ-loop
-returns c = let l = c .before .loop in
-    let e : l .i ≡ length (c .before .before .before .before .args .word .now) / 2 = omega arith in
-    l .inv .1 ∙ ap (paste (c .before .before .before .before .args .out .now) 0 (bytesSaid (c .before .before .before .before .args .word .now))) e
+returns c =
+    let l = c .before .loop in
+    let a = c .before .before .before .before .args in
+    let e : l .i ≡ length (a .word .now) / 2 = omega arith in
+    l .inv .1 ∙ ap (paste (a .out .now) 0 (bytesSaid (a .word .now))) e
 
 pub unhex-spec : {M : Type 1} → statement M
 unhex-spec =

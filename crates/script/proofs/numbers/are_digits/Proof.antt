@@ -5,9 +5,9 @@ use mathlib.Core.Path.{_≡_, sym, _∙_}
 use lib.ListN.{length, drop}
 use borrow.Author.Needs.{needs}
 use borrow.Author.Tests.{not-true, not-false}
-use Rattle.script.proofs.WordLaws.{every-next, every-stop, every-end}
-use Rattle.script.specs.Numbers.{digitb}
-use Rattle.script.specs.Words.{every}
+use Rattle.script.proofs.LineLaws.{every-next, every-stop, every-end}
+use Rattle.script.specs.Decimal.{digitb}
+use Rattle.script.specs.Line.{every}
 use Rattle.script.proofs.numbers.are_digits.Statement.{statement}
 use Rattle.script.proofs.numbers.are_digits.Tie as tie
 
@@ -27,7 +27,8 @@ is-digit-requires : tie.Need-is-digit-requires Inv-loop μ-loop
 is-digit-requires c κs = search needs
 
 returns : tie.Need-returns Inv-loop μ-loop
-returns c = let l = c .before .before .before .before .loop in
+returns c =
+    let l = c .before .before .before .before .loop in
     let w = c .before .before .before .before .before .before .args .word .now in
     let among : l .i < length w = search needs in
     let none = sym (c .before .is-digit .ensures) ∙ not-true (c .before .is-digit .result) (c .if1 .taken) in
@@ -40,16 +41,19 @@ loop-less : tie.Need-loop-less Inv-loop μ-loop
 loop-less c = search needs
 
 loop-again : tie.Need-loop-again Inv-loop μ-loop
-loop-again c = let l = c .before .before .before .before .loop in
+loop-again c =
+    let l = c .before .before .before .before .loop in
     let w = c .before .before .before .before .before .before .args .word .now in
     let among : l .i < length w = search needs in
     let digit = sym (c .before .is-digit .ensures) ∙ not-false (c .before .is-digit .result) (c .if1 .left) in
     (search needs, sym (every-next digitb w (l .i) among digit) ∙ l .inv .1)
 
 returns-2 : tie.Need-returns-2 Inv-loop μ-loop
-returns-2 c = let l = c .before .loop in
-    let past : length (c .before .before .before .args .word .now) ≤ l .i = search needs in
-    sym (every-end digitb (c .before .before .before .args .word .now) (l .i) past) ∙ l .inv .1
+returns-2 c =
+    let l = c .before .loop in
+    let w = c .before .before .before .args .word .now in
+    let past : length w ≤ l .i = search needs in
+    sym (every-end digitb w (l .i) past) ∙ l .inv .1
 
 pub are-digits-spec : {M : Type 1} → statement M
 are-digits-spec =

@@ -2,7 +2,7 @@
 -- Assumes nothing.
 use native.Mathlib.Omega.{arith}
 use borrow.Author.Needs.{needs}
-use Rattle.script.proofs.NumberLaws.{digit-low, digit-high}
+use Rattle.script.proofs.DecimalLaws.{digit-low, digit-high}
 use Rattle.script.proofs.numbers.digit_of.Statement.{statement}
 use Rattle.script.proofs.numbers.digit_of.Tie as tie
 

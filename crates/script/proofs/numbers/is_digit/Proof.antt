@@ -1,14 +1,15 @@
 -- `script::numbers::is_digit` meets its contract: each test is one of the definition's.
 -- Assumes nothing.
-use borrow.Author.Tests.{lt-leb, le-leb}
+use mathlib.Core.Path.{sym}
+use Rattle.script.proofs.DecimalLaws.{digit-before, digit-from}
 use Rattle.script.proofs.numbers.is_digit.Statement.{statement}
 use Rattle.script.proofs.numbers.is_digit.Tie as tie
 
 returns : tie.Need-returns
-returns c = simp (lt-leb _ _ (c .if1 .taken))
+returns c = sym (digit-before _ (c .if1 .taken))
 
 returns-2 : tie.Need-returns-2
-returns-2 c = simp (le-leb _ _ (c .if1 .left))
+returns-2 c = sym (digit-from _ (c .if1 .left))
 
 pub is-digit-spec : {M : Type 1} → statement M
 is-digit-spec = tie.close (tie.spec returns returns-2)

@@ -3,7 +3,7 @@
 use mathlib.Core.Path.{sym, _∙_}
 use borrow.Author.Needs.{needs}
 use borrow.Author.Tests.{eq-eqb, ne-eqb}
-use Rattle.script.specs.Numbers.{numberSaid}
+use Rattle.script.specs.Decimal.{numberSaid}
 use Rattle.script.proofs.numbers.number_of.Statement.{statement}
 use Rattle.script.proofs.numbers.number_of.Tie as tie
 

@@ -1,13 +1,14 @@
--- `script::numbers::value_of` meets its contract: the value of the digits from i on, behind the value so far, is always the value of the word, and it only grows.
+-- `script::numbers::value_of` meets its contract: the value of the digits from i on, behind the value so far, is always the value of the word,
+-- and it only grows.
 -- Assumes nothing.
 use Prim.Native.Nat.{_≤_, _<_, _-_, _+_, _*_}
 use mathlib.Core.Path.{_≡_, sym, ap, _∙_}
 use native.Mathlib.Omega.{arith}
 use lib.ListN.{length, drop}
 use borrow.Author.Needs.{needs}
-use Rattle.script.proofs.NumberLaws.{value-next, value-end, value-le, fitting-large, fitting-is, longer-to, longer-beyond}
-use Rattle.script.proofs.WordLaws.{every-at}
-use Rattle.script.specs.Numbers.{digitb, valueFrom, tooLarge}
+use Rattle.script.proofs.DecimalLaws.{value-next, value-end, value-le, fitting-large, fitting-is, longer-to, longer-beyond}
+use Rattle.script.proofs.LineLaws.{every-at}
+use Rattle.script.specs.Decimal.{digitb, valueFrom, tooLarge}
 use Rattle.script.specs.declared.numbers.Number.the-variants.{Is}
 use Rattle.script.proofs.numbers.value_of.Statement.{statement}
 use Rattle.script.proofs.numbers.value_of.Tie as tie
@@ -25,9 +26,10 @@ shared-slice-read-digit-of : tie.Need-shared-slice-read-digit-of Inv-loop μ-loo
 shared-slice-read-digit-of c = search needs
 
 digit-of-requires : tie.Need-digit-of-requires Inv-loop μ-loop
-digit-of-requires c κs = let l = c .before .before .loop in
-    let among : l .i < length (c .before .before .before .before .args .word .now) = search needs in
-    every-at digitb (c .before .before .before .before .args .word .now) (l .i) (c .before .before .before .before .pre) among
+digit-of-requires c κs =
+    let l = c .before .before .loop in
+    let start = c .before .before .before .before in
+    every-at digitb (start .args .word .now) (l .i) (start .pre) (search needs)
 
 with-digit-requires : tie.Need-with-digit-requires Inv-loop μ-loop
 with-digit-requires c κs = search needs
@@ -39,12 +41,15 @@ enum-told : tie.Need-enum-told Inv-loop μ-loop
 enum-told c = search needs
 
 returns : tie.Need-returns Inv-loop μ-loop
-returns c = let l = c .before .before .before .before .before .before .loop in
+returns c =
+    let digit = c .before .before .before .digit-of in
+    let l = c .before .before .before .before .before .before .loop in
     let w = c .before .before .before .before .before .before .before .before .args .word .now in
     let among : l .i < length w = search needs in
-    let large = longer-beyond (l .value) (c .before .before .before .digit-of .result) (sym (c .before .before .with-digit .ensures) ∙ c .enum-told .given .1) in
-    let next = rw (← c .before .before .before .digit-of .ensures .0) at (value-next (l .value) w (l .i) among) in
-    let past : tooLarge ≤ valueFrom 0 w = omega (arith, large, next, l .inv .1 .1, value-le (l .value * 10 + c .before .before .before .digit-of .result) (drop (l .i + 1) w)) in
+    let large = longer-beyond (l .value) (digit .result) (sym (c .before .before .with-digit .ensures) ∙ c .enum-told .given .1) in
+    let next = rw (← digit .ensures .0) at (value-next (l .value) w (l .i) among) in
+    let grows = value-le (l .value * 10 + digit .result) (drop (l .i + 1) w) in
+    let past : tooLarge ≤ valueFrom 0 w = omega (arith, large, next, l .inv .1 .1, grows) in
     sym (fitting-large (valueFrom 0 w) past)
 
 add-i : tie.Need-add-i Inv-loop μ-loop
@@ -54,15 +59,18 @@ loop-less : tie.Need-loop-less Inv-loop μ-loop
 loop-less c = search needs
 
 loop-again : tie.Need-loop-again Inv-loop μ-loop
-loop-again c = let l = c .before .before .before .before .before .before .before .loop in
+loop-again c =
+    let digit = c .before .before .before .before .digit-of in
+    let l = c .before .before .before .before .before .before .before .loop in
     let w = c .before .before .before .before .before .before .before .before .before .args .word .now in
     let among : l .i < length w = search needs in
-    let to = longer-to (l .value) (c .before .before .before .before .digit-of .result) _ (sym (c .before .before .before .with-digit .ensures) ∙ c .before .next .given .1) in
-    let next = rw (← c .before .before .before .before .digit-of .ensures .0) at (value-next (l .value) w (l .i) among) in
+    let to = longer-to (l .value) (digit .result) _ (sym (c .before .before .before .with-digit .ensures) ∙ c .before .next .given .1) in
+    let next = rw (← digit .ensures .0) at (value-next (l .value) w (l .i) among) in
     (search needs, (search needs, ap (λ v. valueFrom v (drop (l .i + 1) w)) to ∙ sym next ∙ l .inv .1 .1))
 
 returns-2 : tie.Need-returns-2 Inv-loop μ-loop
-returns-2 c = let l = c .before .loop in
+returns-2 c =
+    let l = c .before .loop in
     let w = c .before .before .before .args .word .now in
     let past : length w ≤ l .i = search needs in
     let whole : l .value ≡ valueFrom 0 w = sym (value-end (l .value) w (l .i) past) ∙ l .inv .1 .1 in

@@ -4,7 +4,7 @@ use Prim.Native.Nat.{_≤_, _<_, _-_, _+_, _*_}
 use native.Mathlib.Omega.{arith}
 use borrow.Author.Needs.{needs}
 use borrow.Author.Tests.{lt-ltb, le-ltb}
-use Rattle.script.specs.Numbers.{longerBy, tooLarge}
+use Rattle.script.specs.Decimal.{longerBy, tooLarge}
 use Rattle.script.proofs.numbers.with_digit.Statement.{statement}
 use Rattle.script.proofs.numbers.with_digit.Tie as tie
 

@@ -1,12 +1,12 @@
 -- `script::text::lay` meets its contract: the first i bytes of the text stand at their place.
 -- Assumes nothing.
 use Prim.Native.Nat.{_≤_, _<_, _-_, _+_}
-use mathlib.Core.Path.{_≡_, refl, sym, ap, _∙_}
-use native.Mathlib.Numerals.{add-one}
+use mathlib.Core.Path.{_≡_, refl, ap, _∙_}
 use native.Mathlib.Omega.{arith}
-use lib.ListN.{set, length-set, length, getD}
-use lib.Seq.{paste, paste-zero, paste-suc}
+use lib.ListN.{length-set, length}
+use lib.Seq.{paste, paste-zero}
 use borrow.Author.Needs.{needs}
+use Rattle.script.proofs.LaidLaws.{laid-next}
 use Rattle.script.proofs.text.lay.Statement.{statement}
 use Rattle.script.proofs.text.lay.Tie as tie
 
@@ -35,11 +35,13 @@ loop-less : tie.Need-loop-less Inv-loop μ-loop
 loop-less c = search needs
 
 loop-again : tie.Need-loop-again Inv-loop μ-loop
-loop-again c = let l = c .before .before .loop in
-    let d = c .before .before .before .args .out .now in let s = c .before .before .before .args .text .now in
-    let room : c .before .before .before .args .at + l .i < length d = omega arith in
-    let among : l .i < length s = search needs in
-    ((search needs, simp length-set (l .inv .0 .1)), ap (λ e. set e (c .before .before .before .args .at + l .i) (getD s (l .i) 0)) (l .inv .1) ∙ paste-suc d (c .before .before .before .args .at) s (l .i) 0 room among ∙ ap (paste d (c .before .before .before .args .at) s) (sym (add-one (l .i))))
+loop-again c =
+    let l = c .before .before .loop in
+    let a = c .before .before .before .args in
+    let room : a .at + l .i < length (a .out .now) = omega arith in
+    let among : l .i < length (a .text .now) = search needs in
+    let next = laid-next (a .out .now) (a .text .now) (a .at) (l .i) (l .inv .1) refl room among refl in
+    ((search needs, simp length-set (l .inv .0 .1)), next)
 
 add-result : tie.Need-add-result Inv-loop μ-loop
 add-result c = search needs
@@ -48,9 +50,11 @@ same-length : tie.Need-same-length Inv-loop μ-loop
 same-length c = search needs
 
 returns : tie.Need-returns Inv-loop μ-loop
-returns c = let l = c .before .loop in
-    let e : l .i ≡ length (c .before .before .args .text .now) = omega arith in
-    record { place = refl; buffer = l .inv .1 ∙ ap (paste (c .before .before .args .out .now) (c .before .before .args .at) (c .before .before .args .text .now)) e }
+returns c =
+    let l = c .before .loop in
+    let a = c .before .before .args in
+    let e : l .i ≡ length (a .text .now) = omega arith in
+    record { place = refl; buffer = l .inv .1 ∙ ap (paste (a .out .now) (a .at) (a .text .now)) e }
 
 pub lay-spec : {M : Type 1} → statement M
 lay-spec =

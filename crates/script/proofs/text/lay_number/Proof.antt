@@ -3,7 +3,7 @@
 use Prim.Native.Nat.{_≤_}
 use native.Mathlib.Omega.{arith}
 use borrow.Author.Needs.{needs}
-use Rattle.script.proofs.NumberLaws.{few-places}
+use Rattle.script.proofs.DecimalLaws.{few-places}
 use Rattle.script.proofs.text.lay_number.Statement.{statement}
 use Rattle.script.proofs.text.lay_number.Tie as tie
 
@@ -17,19 +17,24 @@ slice-aggregate-lay : tie.Need-slice-aggregate-lay
 slice-aggregate-lay c = search needs
 
 lay-requires : tie.Need-lay-requires
-lay-requires c κs = let d = c .before .before .decimal in let few = few-places _ _ (c .before .before .before .before .before .fits .n .fits) (d .ensures .1 .0) in omega (arith, d .ensures .0 .1)
+lay-requires c κs =
+    let d = c .before .before .decimal in
+    let few = few-places _ _ (c .before .before .before .before .before .fits .n .fits) (d .ensures .1 .0) in
+    omega (arith, d .ensures .0 .1)
 
 same-length : tie.Need-same-length
 same-length c = search needs
 
 returns : tie.Need-returns
 returns c =
+    let laid = c .before .before .lay .ensures in
     let d = c .before .before .before .before .before .decimal in
+    let most = few-places _ _ (c .before .before .before .before .before .before .before .before .fits .n .fits) (d .ensures .1 .0) in
     record {
       places = d .result;
       fewest = d .ensures .1 .0;
-      few = let few = few-places _ _ (c .before .before .before .before .before .before .before .before .fits .n .fits) (d .ensures .1 .0) in omega (arith, d .ensures .0 .1, c .before .before .lay .ensures .place);
-      laid = rw (d .ensures .1 .1) at (c .before .before .lay .ensures);
+      few = omega (arith, d .ensures .0 .1, laid .place);
+      laid = rw (d .ensures .1 .1) at laid;
     }
 
 pub lay-number-spec : {M : Type 1} → statement M

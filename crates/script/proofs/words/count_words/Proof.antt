@@ -6,13 +6,14 @@ use mathlib.Core.Path.{_≡_}
 use native.Mathlib.Omega.{arith}
 use lib.ListN.{length, drop}
 use borrow.Author.Needs.{needs}
-use Rattle.script.proofs.WordLaws.{words-next, words-end, starts-le}
-use Rattle.script.specs.Words.{wordsIn}
+use Rattle.script.proofs.LineLaws.{words-next, words-end, starts-le}
+use Rattle.script.specs.Line.{wordsIn}
 use Rattle.script.proofs.words.count_words.Statement.{statement}
 use Rattle.script.proofs.words.count_words.Tie as tie
 
 abbrev Inv-loop : tie.InvT-loop
-Inv-loop line from count₀ was₀ i₀ count was i = ((i ≤ length line) × (count ≤ i)) × (count + wordsIn was (drop i line) ≡ wordsIn true (drop from line))
+Inv-loop line from count₀ was₀ i₀ count was i =
+    ((i ≤ length line) × (count ≤ i)) × (count + wordsIn was (drop i line) ≡ wordsIn true (drop from line))
 
 abbrev μ-loop : tie.MeasureT-loop
 μ-loop line from count₀ was₀ i₀ count was i = length line - i
@@ -36,16 +37,22 @@ loop-less : tie.Need-loop-less Inv-loop μ-loop
 loop-less c = search needs
 
 loop-again : tie.Need-loop-again Inv-loop μ-loop
-loop-again c = let l = c .before .before .before .before .loop in
+loop-again c =
+    let l = c .before .before .before .before .loop in
     let w = c .before .before .before .before .before .before .args .line .now in
     let among : l .i < length w = search needs in
-    let b = c .before .is-blank .ensures in
-    ((search needs, omega (arith, c .counted .ensures, starts-le (l .was) (c .before .is-blank .result))), omega (arith, c .counted .ensures, rw (← b) at (words-next (l .was) w (l .i) among), l .inv .1))
+    let blank = c .before .is-blank in
+    let next = rw (← blank .ensures) at (words-next (l .was) w (l .i) among) in (
+      (search needs, omega (arith, c .counted .ensures, starts-le (l .was) (blank .result))),
+      omega (arith, c .counted .ensures, next, l .inv .1),
+    )
 
 returns : tie.Need-returns Inv-loop μ-loop
-returns c = let l = c .before .loop in
-    let past : length (c .before .before .before .args .line .now) ≤ l .i = search needs in
-    omega (arith, words-end (l .was) (c .before .before .before .args .line .now) (l .i) past, l .inv .1)
+returns c =
+    let l = c .before .loop in
+    let w = c .before .before .before .args .line .now in
+    let past : length w ≤ l .i = search needs in
+    omega (arith, words-end (l .was) w (l .i) past, l .inv .1)
 
 pub count-words-spec : {M : Type 1} → statement M
 count-words-spec =

@@ -5,8 +5,8 @@ use mathlib.Core.Path.{_≡_, sym, _∙_}
 use lib.ListN.{length, drop}
 use borrow.Author.Needs.{needs}
 use borrow.Author.Tests.{ne-eqb}
-use Rattle.script.proofs.WordLaws.{same-next, same-stop, same-end, same-lengths}
-use Rattle.script.specs.Words.{sameb}
+use Rattle.script.proofs.LineLaws.{same-next, same-stop, same-end, same-lengths}
+use Rattle.script.specs.Line.{sameb}
 use Rattle.script.proofs.words.is_text.Statement.{statement}
 use Rattle.script.proofs.words.is_text.Tie as tie
 
@@ -29,10 +29,12 @@ shared-slice-read-if2-2 : tie.Need-shared-slice-read-if2-2 Inv-loop μ-loop
 shared-slice-read-if2-2 c = search needs
 
 returns-2 : tie.Need-returns-2 Inv-loop μ-loop
-returns-2 c = let l = c .before .before .before .before .loop in
-    let x = c .before .before .before .before .before .before .args .word .now in let y = c .before .before .before .before .before .before .args .text .now in
-    let h : l .i < length x = search needs in let k : l .i < length y = search needs in
-    sym (same-stop x y (l .i) h k (ne-eqb _ _ (c .if2 .taken))) ∙ l .inv .1
+returns-2 c =
+    let l = c .before .before .before .before .loop in
+    let a = c .before .before .before .before .before .before .args in
+    let h : l .i < length (a .word .now) = search needs in
+    let k : l .i < length (a .text .now) = search needs in
+    sym (same-stop (a .word .now) (a .text .now) (l .i) h k (ne-eqb _ _ (c .if2 .taken))) ∙ l .inv .1
 
 add-i : tie.Need-add-i Inv-loop μ-loop
 add-i c = search needs
@@ -41,16 +43,20 @@ loop-less : tie.Need-loop-less Inv-loop μ-loop
 loop-less c = search needs
 
 loop-again : tie.Need-loop-again Inv-loop μ-loop
-loop-again c = let l = c .before .before .before .before .loop in
-    let x = c .before .before .before .before .before .before .args .word .now in let y = c .before .before .before .before .before .before .args .text .now in
-    let h : l .i < length x = search needs in let k : l .i < length y = search needs in
-    ((search needs, search needs), sym (same-next x y (l .i) h k (c .if2 .left)) ∙ l .inv .1)
+loop-again c =
+    let l = c .before .before .before .before .loop in
+    let a = c .before .before .before .before .before .before .args in
+    let h : l .i < length (a .word .now) = search needs in
+    let k : l .i < length (a .text .now) = search needs in
+    ((search needs, search needs), sym (same-next (a .word .now) (a .text .now) (l .i) h k (c .if2 .left)) ∙ l .inv .1)
 
 returns-3 : tie.Need-returns-3 Inv-loop μ-loop
-returns-3 c = let l = c .before .loop in
-    let x = c .before .before .before .args .word .now in let y = c .before .before .before .args .text .now in
-    let h : length x ≤ l .i = search needs in let k : length y ≤ l .i = search needs in
-    sym (same-end x y (l .i) h k) ∙ l .inv .1
+returns-3 c =
+    let l = c .before .loop in
+    let a = c .before .before .before .args in
+    let h : length (a .word .now) ≤ l .i = search needs in
+    let k : length (a .text .now) ≤ l .i = search needs in
+    sym (same-end (a .word .now) (a .text .now) (l .i) h k) ∙ l .inv .1
 
 pub is-text-spec : {M : Type 1} → statement M
 is-text-spec =

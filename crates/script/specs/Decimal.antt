@@ -9,7 +9,7 @@
 --
 --   RoundTrip          what `io::decimal` prints of a number says that number
 --
--- Assumes nothing. Laws, and the proof of RoundTrip, are in proofs/NumberLaws.antt.
+-- Assumes nothing. Laws, and the proof of RoundTrip, are in proofs/DecimalLaws.antt.
 use mathlib.Core.Path.{_≡_}
 use mathlib.Core.Bool.{Bool, cond, _&&_}
 use mathlib.Core.List.{List, [], _∷_}
@@ -21,7 +21,7 @@ use Rattle.script.specs.declared.numbers.Number.{Number}
 use Rattle.script.specs.declared.numbers.Number.the-variants.{Is, TooLarge, NoNumber}
 use Rattle.script.specs.declared.numbers.Longer.{Longer}
 use Rattle.script.specs.declared.numbers.Longer.the-variants.{To, Beyond}
-use Rattle.script.specs.Words.{every}
+use Rattle.script.specs.Line.{every}
 
 abbrev pub digitb : ℕ → Bool
 digitb b = leb 48 b && leb b 57

@@ -7,13 +7,13 @@
 --   bytesSaid xs       the bytes, the higher digit of each first
 --   glyphOf v          the digit of a value below 16, in small letters: as `io::hex` prints it
 --
--- Assumes nothing. Laws are in proofs/ByteLaws.antt.
+-- Assumes nothing. Laws are in proofs/HexLaws.antt.
 use mathlib.Core.Bool.{Bool, false, cond, not}
 use mathlib.Core.List.{List, [], _∷_}
 use Prim.Native.Nat.{ℕ, _+_, _-_, _*_, _%_}
 use lib.Dec.{leb, ltb, eqb}
 use lib.ListN.{length}
-use Rattle.script.specs.Words.{every}
+use Rattle.script.specs.Line.{every}
 
 abbrev pub noNibble : ℕ
 noNibble = 16

@@ -1,5 +1,5 @@
--- Laws of the value of digits, in the order of specs/Numbers.antt, the round trip, and how many digits a number has.
--- Not here: laws of `every` (WordLaws).
+-- Laws of the value of digits, in the order of specs/Decimal.antt, the round trip, and how many digits a number has.
+-- Not here: laws of `every` (LineLaws).
 -- Assumes nothing.
 use Prim.Native.Nat.{ℕ, zero, suc, _+_, _-_, _*_, _/_, _%_, _^_, _<_, _≤_}
 use mathlib.Core.Bool.{Bool, true, false, cond}
@@ -12,12 +12,12 @@ use native.Mathlib.Omega.{arith}
 use lib.Dec.{leb, ltb}
 use lib.ListN.{length, drop, getD, drop-of-length-le, length-append}
 use lib.Seq.{drop-cons}
-use borrow.Author.Tests.{le-leb, lt-ltb, le-ltb, ne-eqb, leb-true, ltb-false}
+use borrow.Author.Tests.{le-leb, lt-leb, lt-ltb, le-ltb, ne-eqb, leb-true, ltb-false}
 use Rattle.io.specs.Digits.{digits, glyph, Fewest}
-use Rattle.script.proofs.WordLaws.{and-left, and-right}
+use Rattle.pages.proofs.Numbers.{and-left, and-right}
 use Rattle.script.specs.Laid.{numberBytes}
-use Rattle.script.specs.Numbers.{digitb, valueFrom, tooLarge, longerBy, fitting, numberSaid, RoundTrip}
-use Rattle.script.specs.Words.{every}
+use Rattle.script.specs.Decimal.{digitb, valueFrom, tooLarge, longerBy, fitting, numberSaid, RoundTrip}
+use Rattle.script.specs.Line.{every}
 use Rattle.script.specs.declared.numbers.Longer.the-variants.{To, Beyond}
 use Rattle.script.specs.declared.numbers.Number.the-variants.{Is, TooLarge}
 
@@ -87,6 +87,12 @@ round-trip n k h f =
     rw (ne-eqb (length (digits 10 k n)) 0 (digits-some k n (f .0)), digits-every k n, digits-value k n (f .1)) (fitting-is n h)
 
 -- ---- digits
+
+pub digit-before : (b : ℕ) → b < 48 → digitb b ≡ false
+digit-before b h = rw (lt-leb 48 b h)
+
+pub digit-from : (b : ℕ) → 48 ≤ b → digitb b ≡ leb b 57
+digit-from b h = rw (le-leb 48 b h)
 
 pub digit-low : (b : ℕ) → digitb b ≡ true → 48 ≤ b
 digit-low b h = leb-true 48 b (and-left (leb 48 b) (leb b 57) h)

@@ -1,10 +1,12 @@
--- The words of a line.
+-- The lines of a text, and the words of a line.
 --
 --   run p xs           how many bytes at the front of xs are such as p says
 --   every p xs         whether all are
 --   blankb b           the byte b stands between words: a space, a tab or a carriage return
 --   letterb b          the byte b stands in a word
+--   otherb c b         the byte b is another than c
 --   plainb b           the byte b starts no comment
+--   insideb b          the byte b stands in a line: it is no line end
 --   Ends p xs from r   r is where the run of such bytes ends that starts at `from`
 --   WordAt xs from w   w is the first word of xs from `from` on, of no bytes where there is none
 --   starts was is      1 where a word starts: at a letter behind a blank (was: a blank came before, is: this is one)
@@ -12,7 +14,7 @@
 --   sameb xs ys        whether two texts are the same
 --   Same               it is true exactly of equal texts
 --
--- Assumes nothing. Laws, and the proof of Same, are in proofs/WordLaws.antt.
+-- Assumes nothing. Laws, and the proof of Same, are in proofs/LineLaws.antt.
 use mathlib.Core.Path.{_≡_}
 use mathlib.Core.Bool.{Bool, true, false, cond, not, _&&_, _||_}
 use mathlib.Core.Logic.{_↔_}
@@ -36,8 +38,14 @@ blankb b = eqb b 32 || (eqb b 9 || eqb b 13)
 abbrev pub letterb : ℕ → Bool
 letterb b = not (blankb b)
 
+abbrev pub otherb : ℕ → ℕ → Bool
+otherb c b = not (eqb b c)
+
 abbrev pub plainb : ℕ → Bool
 plainb b = not (eqb b 35)
+
+abbrev pub insideb : ℕ → Bool
+insideb b = not (eqb b 10)
 
 pub record Ends (p : ℕ → Bool) (xs : List ℕ) (from r : ℕ) : Type 0 where
   pub exact : r ≡ from + run p (drop from xs)

@@ -1,9 +1,11 @@
--- Laws of runs of bytes, counted words and equal texts, in the order of specs/Words.antt: each is one step of a walk over a list, or its end.
+-- Laws of runs of bytes, counted words and equal texts, in the order of specs/Line.antt: each is one step of a walk over a list, or its end.
+--
+--   Runs p xs from i   a walk over the run of such bytes that starts at `from` has come to i
+--
 -- Then what `every` says of one element, and that `sameb` tells equality.
--- Not here: laws of `drop` and `getD` (lib.Seq).
--- Assumes nothing.
+-- Not here: laws of `drop` and `getD` (lib.Seq), of `&&` (pages/proofs/Numbers.antt). Assumes nothing.
 use Prim.Native.Nat.{ℕ, zero, suc, _+_, _<_, _≤_}
-use mathlib.Core.Bool.{Bool, true, false, _&&_, true≢false}
+use mathlib.Core.Bool.{Bool, true, false, true≢false}
 use mathlib.Core.List.{List, [], _∷_}
 use mathlib.Core.Path.{_≡_, refl, sym, ap}
 use native.Mathlib.Numerals.{add-one}
@@ -12,30 +14,40 @@ use lib.Dec.{eqb}
 use lib.ListN.{length, drop, getD, drop-of-length-le}
 use lib.Seq.{drop-cons}
 use borrow.Author.Tests.{eq-eqb, eqb-true}
-use Rattle.script.specs.Words.{run, every, blankb, starts, wordsIn, sameb, Same}
-
-pub and-left : (a b : Bool) → (a && b) ≡ true → a ≡ true
-and-left true b h = refl
-and-left false b h = h
-
-pub and-right : (a b : Bool) → (a && b) ≡ true → b ≡ true
-and-right true b h = h
-and-right false true h = refl
-and-right false false h = h
+use Rattle.pages.proofs.Numbers.{and-left, and-right, and-false}
+use Rattle.script.specs.Line.{run, every, blankb, Ends, starts, wordsIn, sameb, Same}
 
 -- ---- runs
 
-pub run-next : (p : ℕ → Bool) (xs : List ℕ) (i : ℕ) → i < length xs → p (getD xs i 0) ≡ true → run p (drop i xs) ≡ suc (run p (drop (i + 1) xs))
+run-next : (p : ℕ → Bool) (xs : List ℕ) (i : ℕ) → i < length xs → p (getD xs i 0) ≡ true → run p (drop i xs) ≡ suc (run p (drop (i + 1) xs))
 unfolding run
 run-next p xs i h t = rw (add-one, drop-cons xs i 0 h, t)
 
-pub run-stop : (p : ℕ → Bool) (xs : List ℕ) (i : ℕ) → i < length xs → p (getD xs i 0) ≡ false → run p (drop i xs) ≡ 0
+run-stop : (p : ℕ → Bool) (xs : List ℕ) (i : ℕ) → i < length xs → p (getD xs i 0) ≡ false → run p (drop i xs) ≡ 0
 unfolding run
 run-stop p xs i h t = rw (drop-cons xs i 0 h, t)
 
-pub run-end : (p : ℕ → Bool) (xs : List ℕ) (i : ℕ) → length xs ≤ i → run p (drop i xs) ≡ 0
+run-end : (p : ℕ → Bool) (xs : List ℕ) (i : ℕ) → length xs ≤ i → run p (drop i xs) ≡ 0
 unfolding run
 run-end p xs i h = rw (drop-of-length-le xs h)
+
+pub record Runs (p : ℕ → Bool) (xs : List ℕ) (from i : ℕ) : Type 0 where
+  pub low : from ≤ i
+  pub within : i ≤ length xs
+  pub same-end : i + run p (drop i xs) ≡ from + run p (drop from xs)
+
+pub runs-start : (p : ℕ → Bool) (xs : List ℕ) (from : ℕ) → from ≤ length xs → Runs p xs from from
+runs-start p xs from h = record { low = omega arith; within = h; same-end = refl }
+
+module _ {p : ℕ → Bool} {xs : List ℕ} {from i : ℕ} (r : Runs p xs from i) where
+  pub runs-next : i < length xs → p (getD xs i 0) ≡ true → Runs p xs from (i + 1)
+  runs-next h t = record { low = omega arith; within = omega arith; same-end = omega (arith, run-next p xs i h t, r .same-end) }
+
+  pub runs-stop : i < length xs → p (getD xs i 0) ≡ false → Ends p xs from i
+  runs-stop h t = record { exact = omega (arith, run-stop p xs i h t, r .same-end); low = r .low; within = r .within }
+
+  pub runs-end : length xs ≤ i → Ends p xs from i
+  runs-end h = record { exact = omega (arith, run-end p xs i h, r .same-end); low = r .low; within = r .within }
 
 -- ---- all of them
 
@@ -53,7 +65,8 @@ every-end p xs i h = rw (drop-of-length-le xs h)
 
 -- ---- words
 
-pub words-next : (was : Bool) (xs : List ℕ) (i : ℕ) → i < length xs → wordsIn was (drop i xs) ≡ starts was (blankb (getD xs i 0)) + wordsIn (blankb (getD xs i 0)) (drop (i + 1) xs)
+pub words-next : (was : Bool) (xs : List ℕ) (i : ℕ) → i < length xs
+    → wordsIn was (drop i xs) ≡ starts was (blankb (getD xs i 0)) + wordsIn (blankb (getD xs i 0)) (drop (i + 1) xs)
 unfolding wordsIn
 words-next was xs i h = rw (add-one, drop-cons xs i 0 h)
 
@@ -68,7 +81,8 @@ starts-le false false = omega arith
 
 -- ---- texts
 
-pub same-next : (xs ys : List ℕ) (i : ℕ) → i < length xs → i < length ys → getD xs i 0 ≡ getD ys i 0 → sameb (drop i xs) (drop i ys) ≡ sameb (drop (i + 1) xs) (drop (i + 1) ys)
+pub same-next : (xs ys : List ℕ) (i : ℕ) → i < length xs → i < length ys → getD xs i 0 ≡ getD ys i 0
+    → sameb (drop i xs) (drop i ys) ≡ sameb (drop (i + 1) xs) (drop (i + 1) ys)
 unfolding sameb
 same-next xs ys i h k e = rw (add-one, drop-cons xs i 0 h, drop-cons ys i 0 k, eq-eqb _ _ e)
 
@@ -85,11 +99,7 @@ unfolding sameb
 same-lengths [] [] h = absurd (h refl)
 same-lengths [] (y ∷ ys) h = refl
 same-lengths (x ∷ xs) [] h = refl
-same-lengths (x ∷ xs) (y ∷ ys) h = rw (same-lengths xs ys (λ e. h (ap suc e))) (and-false (eqb x y))
-  where
-    and-false : (b : Bool) → (b && false) ≡ false
-    and-false true = refl
-    and-false false = refl
+same-lengths (x ∷ xs) (y ∷ ys) h = and-false (eqb x y) (same-lengths xs ys (λ e. h (ap suc e)))
 
 -- ---- one of all
 
