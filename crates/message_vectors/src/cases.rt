@@ -1,93 +1,175 @@
-// What a case asks of the message. Each answer is `bad`, with one more for each thing that is not as expected.
-use crate::slices::copy;
-use crate::slices::differing;
-use crate::slices::head_mut;
-use crate::slices::untouched;
-use crate::tell::compare;
+// What a case asks of the message. A question answers whether all is as expected, and prints what is not.
+ghost use mathlib.Core.Path.{_≡_};
+ghost use Prim.Native.Nat.{_+_, _≤_};
+ghost use lib.ListN.{length};
 use message::Fields;
+use script::text::lay;
+use script::words::is_text;
+use show::text::say;
+use show::text::say_number;
+use show::words::same_words;
+
+// How long a message is.
+pub const MESSAGE: usize = 125;
+
+// How long the lent memory is.
+pub const BLOCK: usize = 200;
+
+// The numbers of a message's fields, in the order of the message, but for the version.
+pub const NUMBERS: usize = 18;
+
+// What stands in memory before a message is written to it: no vector has this byte where it would be missed.
+const UNTOUCHED: u8 = 165;
+
+pub fn untouched() -> [u8; BLOCK] {
+    [UNTOUCHED; BLOCK]
+}
+
+// A block with bytes at a place, and untouched else.
+pub fn block_with(bytes: &[u8], at: usize) -> [u8; BLOCK]
+    requires { ⌜ at + length (now bytes) ≤ 200 ⌝ }
+{
+    let mut block = untouched();
+    lay(&mut block, at, bytes);
+    block
+}
+
+// The first n bytes, or all where there are fewer.
+pub fn head(bytes: &[u8], n: usize) -> &[u8]
+    ensures { λ r. ⌜ length (now r) ≤ n ⌝ }
+{
+    if n <= bytes.len() {
+        return &bytes[0..n];
+    }
+    bytes
+}
+
+// The bytes from a place on.
+pub fn tail(bytes: &[u8], at: usize) -> &[u8]
+    requires { ⌜ at ≤ length (now bytes) ⌝ }
+{
+    &bytes[at..]
+}
+
+// The fields of a good message.
+pub fn fields_in(good: &[u8; BLOCK]) -> Fields {
+    let found = message::read(head(good, MESSAGE));
+    found.fields
+}
+
+fn six(n: [u64; NUMBERS], from: usize) -> [u64; 6]
+    requires { ⌜ from ≤ 12 ⌝ }
+{
+    [
+        n[from],
+        n[from + 1],
+        n[from + 2],
+        n[from + 3],
+        n[from + 4],
+        n[from + 5],
+    ]
+}
+
+pub fn fields_of(n: [u64; NUMBERS]) -> Fields {
+    Fields {
+        strategy: (n[0] % 256) as u8,
+        persist: (n[1] % 256) as u8,
+        threshold: n[2],
+        page: n[3],
+        page_end: (n[4] % 65536) as u16,
+        eoa: n[5],
+        small: six(n, 6),
+        large: six(n, 12),
+    }
+}
 
 // The fields of a refused message.
 pub fn no_fields() -> Fields {
-    Fields {
-        strategy: 0,
-        persist: 0,
-        threshold: 0,
-        page: 0,
-        page_end: 0,
-        eoa: 0,
-        small: [0; 6],
-        large: [0; 6],
-    }
+    fields_of([0; NUMBERS])
 }
 
-// One more where the two differ.
-fn plus(count: u64, differ: bool) -> u64 {
-    if differ {
-        return std::num::wrapping_add_u64(count, 1);
+// Whether a number is this one.
+pub fn agree(what: &[u8], expected: u64, found: u64) -> bool {
+    if expected == found {
+        return true;
     }
-    count
-}
-
-fn differ_six(a: [u64; 6], b: [u64; 6]) -> bool {
-    let mut i = 0;
-    while i < 6 {
-        if a[i] != b[i] {
-            return true;
-        }
-        i += 1;
-    }
+    say(what);
+    say(b": expected ");
+    say_number(expected);
+    say(b", found ");
+    say_number(found);
+    say(b"\n");
     false
 }
 
-// How many fields of the two differ, the six small and the six large addresses each counted as one.
-fn differing_fields(a: Fields, b: Fields) -> u64 {
+fn same_six(a: [u64; 6], b: [u64; 6]) -> bool {
+    same_words(&a, &b)
+}
+
+fn same_heads(a: Fields, b: Fields) -> bool {
+    agree(b"strategy", a.strategy as u64, b.strategy as u64)
+        && agree(b"persist", a.persist as u64, b.persist as u64)
+        && agree(b"threshold", a.threshold, b.threshold)
+        && agree(b"page size", a.page, b.page)
+        && agree(b"page-end threshold", a.page_end as u64, b.page_end as u64)
+        && agree(b"EOA", a.eoa, b.eoa)
+}
+
+fn same_fields(a: Fields, b: Fields) -> bool {
     let a_small = a.small;
     let b_small = b.small;
     let a_large = a.large;
     let b_large = b.large;
-    let codes = plus(plus(0, a.strategy != b.strategy), a.persist != b.persist);
-    let sizes = plus(plus(codes, a.threshold != b.threshold), a.page != b.page);
-    let ends = plus(plus(sizes, a.page_end != b.page_end), a.eoa != b.eoa);
-    plus(
-        plus(ends, differ_six(a_small, b_small)),
-        differ_six(a_large, b_large),
-    )
+    if same_heads(a, b) && same_six(a_small, b_small) && same_six(a_large, b_large) {
+        return true;
+    }
+    say(b"found other fields\n");
+    false
 }
 
-// The bytes are read: the answer's number, the fields, and how many bytes follow.
-pub fn reads(bytes: &[u8], refusal: u64, fields: Fields, follows: u64, bad: u64) -> u64 {
+// Whether read answers this number and these fields for the bytes.
+fn answers(bytes: &[u8], number: u64, fields: Fields) -> bool {
     let found = message::read(bytes);
     let answer = found.answer;
     let found_fields = found.fields;
-    let number = compare(b" read", refusal, message::number_of(answer), bad);
-    let same = compare(
-        b", fields that differ",
-        0,
-        differing_fields(found_fields, fields),
-        number,
-    );
-    compare(
-        b", bytes that follow",
-        follows,
-        message::rest(bytes).len() as u64,
-        same,
-    )
+    agree(b"read", number, message::number_of(answer)) && same_fields(fields, found_fields)
 }
 
-// The fields are written into n bytes of memory: the answer's number, and the memory afterwards, which holds the first `filled` of the bytes
-// and is untouched behind them.
-pub fn writes(
-    fields: Fields,
-    n: usize,
-    refusal: u64,
-    bytes: &[u8],
-    filled: usize,
-    bad: u64,
-) -> u64 {
-    let mut out = untouched();
-    let mut wanted = untouched();
-    copy(bytes, &mut wanted, 0, filled);
-    let answer = message::write(fields, head_mut(&mut out, n));
-    let number = compare(b", write", refusal, message::number_of(answer), bad);
-    compare(b", bytes that differ", 0, differing(&out, &wanted), number)
+// Whether the bytes are read so: the answer's number, the fields, and how many bytes follow.
+pub fn reads(bytes: &[u8], number: u64, fields: Fields, follows: usize) -> bool {
+    let rest = message::rest(bytes);
+    agree(b"bytes that follow", follows as u64, rest.len() as u64) && answers(bytes, number, fields)
+}
+
+// Whether a block has the bytes of another.
+pub fn same_block(expected: &[u8; BLOCK], found: &[u8; BLOCK]) -> bool {
+    if is_text(found, expected) {
+        return true;
+    }
+    say(b"found other bytes in the block\n");
+    false
+}
+
+// Whether the fields are written so into n bytes of a block: the answer's number, and every byte of the block afterwards.
+pub fn writes(fields: Fields, n: usize, number: u64, expected: &[u8; BLOCK]) -> bool
+    requires { ⌜ n ≤ 200 ⌝ }
+{
+    let mut block = untouched();
+    let answer = message::write(fields, &mut block[..n]);
+    agree(b"write", number, message::number_of(answer)) && same_block(expected, &block)
+}
+
+// What a claim says of a read message.
+pub fn say_read(number: u64, follows: usize) {
+    say(b": read ");
+    say_number(number);
+    say(b", ");
+    say_number(follows as u64);
+    say(b" bytes follow");
+}
+
+// What a claim says of a written one.
+pub fn say_write(number: u64) {
+    say(b", write ");
+    say_number(number);
 }

@@ -1,83 +1,90 @@
-// Each of the first three bytes of a good message is given each of its 255 other values.
-use crate::slices::copy;
-use crate::slices::head;
-use crate::slices::untouched;
-use crate::tell::Tally;
-use crate::tell::compare;
-use crate::tell::number;
-use crate::tell::say;
-use crate::text::byte_at;
-
-// How many values of a byte were accepted, and how many refused with the number that is expected.
-struct Answers {
-    accepted: u64,
-    refused: u64,
-}
+// Each of the first three bytes of a good message is given each of its values.
+ghost use Prim.Native.Nat.{_<_};
+use crate::cases::BLOCK;
+use crate::cases::MESSAGE;
+use crate::cases::agree;
+use crate::cases::block_with;
+use crate::cases::head;
+use script::text::lay;
+use show::claim::Tally;
+use show::claim::say_verdict;
+use show::text::say;
+use show::text::say_number;
 
 // What read answers for the good message with another byte at a place.
-fn answer_with(good: &[u8], at: usize, byte: u8) -> u64 {
-    let mut bytes = untouched();
-    copy(good, &mut bytes, 0, 125);
-    copy(&[byte], &mut bytes, at, 1);
-    let found = message::read(head(&bytes, 125));
+fn answer_with(good: &[u8; BLOCK], at: usize, byte: u8) -> u64
+    requires { ⌜ at < 200 ⌝ }
+{
+    let mut bytes = block_with(head(good, MESSAGE), 0);
+    lay(&mut bytes, at, &[byte]);
+    let found = message::read(head(&bytes, MESSAGE));
     let answer = found.answer;
     message::number_of(answer)
 }
 
-// One value more. An accepted one is written.
-fn with(answers: Answers, value: u64, answer: u64, refusal: u64) -> Answers {
-    let mut next = answers;
-    if answer == 0 {
-        say(b" ");
-        number(value);
-        next.accepted = std::num::wrapping_add_u64(next.accepted, 1);
+// What it is to answer: the values from `first` to `last` are legal.
+fn due(value: u8, first: u8, last: u8, refusal: u64) -> u64 {
+    if first <= value && value <= last {
+        return 0;
     }
-    if answer == refusal {
-        next.refused = std::num::wrapping_add_u64(next.refused, 1);
-    }
-    next
+    refusal
 }
 
-// Each other value of the byte at a place.
-fn answers_for(good: &[u8], at: usize, refusal: u64) -> Answers {
-    let mut found = Answers {
-        accepted: 0,
-        refused: 0,
-    };
+// Whether a value of the byte at a place is answered so. One that is not is printed.
+fn is_due(good: &[u8; BLOCK], at: usize, value: u8, first: u8, last: u8, refusal: u64) -> bool
+    requires { ⌜ at < 200 ⌝ }
+{
+    let found = answer_with(good, at, value);
+    if agree(b"read", due(value, first, last, refusal), found) {
+        return true;
+    }
+    say(b"of the value ");
+    say_number(value as u64);
+    say(b"\n");
+    false
+}
+
+// Whether every value is.
+fn are_due(good: &[u8; BLOCK], at: usize, first: u8, last: u8, refusal: u64) -> bool
+    requires { ⌜ at < 200 ⌝ }
+{
     let mut value: u64 = 0;
     while value < 256 {
-        let byte = (value % 256) as u8;
-        if byte != byte_at(good, at) {
-            found = with(found, value, answer_with(good, at, byte), refusal);
+        if !is_due(good, at, (value % 256) as u8, first, last, refusal) {
+            return false;
         }
         value += 1;
     }
-    found
+    true
 }
 
-fn damage(tally: Tally, good: &[u8], at: usize, name: &[u8], accepted: u64, refusal: u64) -> Tally {
+fn damage(
+    t: Tally,
+    good: &[u8; BLOCK],
+    at: usize,
+    name: &[u8],
+    first: u8,
+    last: u8,
+    refusal: u64,
+) -> Tally
+    requires { ⌜ at < 200 ⌝ }
+{
+    let held = are_due(good, at, first, last, refusal);
+    say_verdict(held);
     say(name);
-    say(b", which is ");
-    number(byte_at(good, at) as u64);
-    say(b", damaged to its 255 other values; accepted are");
-    let found = answers_for(good, at, refusal);
-    if found.accepted == 0 {
-        say(b" none");
-    }
-    let bad = compare(b"; accepted", accepted, found.accepted, 0);
-    say(b", refused ");
-    number(refusal);
-    tally.with(compare(
-        b"",
-        std::num::wrapping_sub_u64(255, accepted),
-        found.refused,
-        bad,
-    ))
+    say(b", in each of its 256 values: read 0 from ");
+    say_number(first as u64);
+    say(b" to ");
+    say_number(last as u64);
+    say(b", ");
+    say_number(refusal);
+    say(b" for every other\n");
+    t.count(held)
 }
 
-// The good message has the strategy 0, persist 1 and every address all ones.
-pub fn damages(tally: Tally, good: &[u8]) -> Tally {
-    let first = damage(tally, good, 0, b"byte 0, the version", 0, 11);
-    let second = damage(first, good, 1, b"byte 1, the strategy", 3, 12);
-    damage(second, good, 2, b"byte 2, persist", 1, 12)
+// The good message has persist 1 and every address all ones.
+pub fn damages(t: Tally, good: &[u8; BLOCK]) -> Tally {
+    let t = damage(t, good, 0, b"byte 0, the version", 1, 1, 11);
+    let t = damage(t, good, 1, b"byte 1, the strategy", 0, 3, 12);
+    damage(t, good, 2, b"byte 2, persist", 0, 1, 12)
 }

@@ -1,13 +1,20 @@
 // Each rule of the fields from both sides of its edge, by the writer: what keeps the rules is written and reads back to the same fields; what
 // breaks one is refused 12, also where no byte is lent, and no byte is written.
+ghost use Prim.Native.Nat.{_<_};
+use crate::cases::BLOCK;
+use crate::cases::MESSAGE;
+use crate::cases::agree;
+use crate::cases::fields_in;
 use crate::cases::reads;
+use crate::cases::say_read;
+use crate::cases::say_write;
+use crate::cases::untouched;
 use crate::cases::writes;
-use crate::slices::untouched;
-use crate::tell::Tally;
-use crate::tell::compare;
-use crate::tell::number;
-use crate::tell::say;
 use message::Fields;
+use show::claim::Tally;
+use show::claim::say_verdict;
+use show::text::say;
+use show::text::say_number;
 
 // A case has one place in each of these: page size, strategy, persist, the last small address, and whether the fields keep the rules.
 const CASES: usize = 10;
@@ -55,60 +62,65 @@ const KEEPS: [bool; CASES] = [
     false,
 ];
 
-fn with(fields: Fields, i: usize) -> Fields {
+// The fields of a case.
+fn with(fields: Fields, i: usize) -> Fields
+    requires { ⌜ i < 10 ⌝ }
+{
     let mut next = fields;
-    if i < CASES {
-        next.page = PAGE[i];
-        next.strategy = STRATEGY[i];
-        next.persist = PERSIST[i];
-        next.small[5] = ADDRESS[i];
-    }
+    next.page = PAGE[i];
+    next.strategy = STRATEGY[i];
+    next.persist = PERSIST[i];
+    next.small[5] = ADDRESS[i];
     next
 }
 
-fn keeps(i: usize) -> bool {
-    if i < CASES { KEEPS[i] } else { false }
+// Fields that keep the rules are written and read back.
+fn kept(fields: Fields) -> bool {
+    let mut block = untouched();
+    let answer = message::write(fields, &mut block);
+    agree(b"write", 0, message::number_of(answer)) && reads(&block, 0, fields, BLOCK - MESSAGE)
 }
 
-fn kept(fields: Fields) -> u64 {
-    let mut out = untouched();
-    let answer = message::write(fields, &mut out);
-    let bad = compare(b", write", 0, message::number_of(answer), 0);
-    say(b",");
-    reads(&out, 0, fields, 75, bad)
+// Fields that break one are refused.
+fn broken(fields: Fields) -> bool {
+    let blank = untouched();
+    writes(fields, BLOCK, 12, &blank) && writes(fields, 0, 12, &blank)
 }
 
-fn broken(fields: Fields) -> u64 {
-    let bad = writes(fields, 200, 12, b"", 0, 0);
-    say(b", in no bytes");
-    writes(fields, 0, 12, b"", 0, bad)
-}
-
-fn edge(tally: Tally, fields: Fields, keep: bool) -> Tally {
+fn say_fields(fields: Fields) {
     let small = fields.small;
     say(b"page size ");
-    number(fields.page);
+    say_number(fields.page);
     say(b", strategy ");
-    number(fields.strategy as u64);
+    say_number(fields.strategy as u64);
     say(b", persist ");
-    number(fields.persist as u64);
+    say_number(fields.persist as u64);
     say(b", the last small address ");
-    number(small[5]);
-    if keep {
-        return tally.with(kept(fields));
+    say_number(small[5]);
+}
+
+fn edge(t: Tally, fields: Fields, keeps: bool) -> Tally {
+    let held = if keeps { kept(fields) } else { broken(fields) };
+    say_verdict(held);
+    say_fields(fields);
+    if keeps {
+        say_read(0, BLOCK - MESSAGE);
+        say_write(0);
+        say(b"\n");
+    } else {
+        say(b": write 12, also where no byte is lent\n");
     }
-    tally.with(broken(fields))
+    t.count(held)
 }
 
 // The fields of the good message have every address all ones.
-pub fn edges(tally: Tally, good: &[u8]) -> Tally {
-    let found = message::read(good);
-    let fields = found.fields;
-    let mut counted = tally;
+pub fn edges(t: Tally, good: &[u8; BLOCK]) -> Tally {
+    let fields = fields_in(good);
+    let mut t = t;
     let mut i = 0;
     while i < CASES {
-        counted = edge(counted, with(fields, i), keeps(i));
+        t = edge(t, with(fields, i), KEEPS[i]);
         i += 1;
     }
-    counted
+    t
 }

@@ -1,52 +1,57 @@
 // A good message, and a byte more, lent in each length from 0 to 126: under 125 bytes read and write answer 10, all of the part follows and
 // no byte is written.
+ghost use Prim.Native.Nat.{_≤_};
+use crate::cases::BLOCK;
+use crate::cases::MESSAGE;
+use crate::cases::block_with;
+use crate::cases::fields_in;
+use crate::cases::head;
 use crate::cases::no_fields;
 use crate::cases::reads;
+use crate::cases::say_read;
+use crate::cases::say_write;
+use crate::cases::untouched;
 use crate::cases::writes;
-use crate::slices::copy;
-use crate::slices::head;
-use crate::slices::untouched;
-use crate::tell::Tally;
-use crate::tell::number;
-use crate::tell::say;
 use message::Fields;
+use show::claim::Tally;
+use show::claim::say_verdict;
+use show::text::say;
+use show::text::say_number;
 
-fn short(tally: Tally, block: &[u8], fields: Fields, n: usize) -> Tally {
+// That n bytes of the block are read so, and the fields written into as many.
+fn length(
+    t: Tally,
+    block: &[u8; BLOCK],
+    n: usize,
+    number: u64,
+    found: Fields,
+    follows: usize,
+    fields: Fields,
+    expected: &[u8; BLOCK],
+) -> Tally
+    requires { ⌜ n ≤ 200 ⌝ }
+{
+    let held = reads(head(block, n), number, found, follows) && writes(fields, n, number, expected);
+    say_verdict(held);
     say(b"length ");
-    number(n as u64);
-    say(b":");
-    let bad = reads(head(block, n), 10, no_fields(), n as u64, 0);
-    tally.with(writes(fields, n, 10, block, 0, bad))
+    say_number(n as u64);
+    say_read(number, follows);
+    say_write(number);
+    say(b"\n");
+    t.count(held)
 }
 
-fn enough(tally: Tally, block: &[u8], fields: Fields, n: usize, follows: u64) -> Tally {
-    say(b"length ");
-    number(n as u64);
-    say(b":");
-    let bad = reads(head(block, n), 0, fields, follows, 0);
-    tally.with(writes(fields, n, 0, block, 125, bad))
-}
-
-fn each(tally: Tally, block: &[u8], fields: Fields) -> Tally {
-    let mut counted = tally;
+pub fn lengths(t: Tally, good: &[u8; BLOCK]) -> Tally {
+    let fields = fields_in(good);
+    let none = no_fields();
+    let block = block_with(head(good, MESSAGE), 0);
+    let blank = untouched();
+    let mut t = t;
     let mut n = 0;
-    while n < 125 {
-        counted = short(counted, block, fields, n);
+    while n < MESSAGE {
+        t = length(t, &block, n, 10, none, n, fields, &blank);
         n += 1;
     }
-    enough(
-        enough(counted, block, fields, 125, 0),
-        block,
-        fields,
-        126,
-        1,
-    )
-}
-
-pub fn lengths(tally: Tally, good: &[u8]) -> Tally {
-    let mut block = untouched();
-    copy(good, &mut block, 0, 125);
-    let found = message::read(good);
-    let fields = found.fields;
-    each(tally, &block, fields)
+    t = length(t, &block, MESSAGE, 0, fields, 0, fields, &block);
+    length(t, &block, MESSAGE + 1, 0, fields, 1, fields, &block)
 }

@@ -1,44 +1,55 @@
 // Holds the message against outside bytes. data/hdf5-messages.txt is shared/vectors/hdf5-messages.txt: messages cut out of files that HDF5
-// 1.10.8 wrote, with their fields. Each line of the output is a case: what was asked, what is expected and what was found.
+// 1.10.8 wrote, with their fields. Each line of the output is a claim, with what is expected in it; what was found stands before it where it
+// fails.
 mod cases;
 mod damage;
 mod edges;
 mod lengths;
+mod lines;
 mod middle;
-mod slices;
-mod tell;
-mod text;
 mod vectors;
 
-use tell::Tally;
+ghost use Prim.Native.Nat.{_≤_};
+ghost use lib.ListN.{length};
+use cases::BLOCK;
+use cases::untouched;
+use lines::is_name;
+use lines::line;
+use lines::next_line;
+use show::claim::Tally;
 
-// The cases over one good message.
-fn more(tally: Tally, good: &[u8]) {
-    let damaged = damage::damages(tally, good);
-    let lengthened = lengths::lengths(damaged, good);
-    let moved = middle::middle(lengthened, good);
-    let edged = edges::edges(moved, good);
-    edged.sum();
+// The claims over one good message.
+fn more(t: Tally, good: &[u8; BLOCK]) -> Tally {
+    let t = damage::damages(t, good);
+    let t = lengths::lengths(t, good);
+    let t = middle::middle(t, good);
+    edges::edges(t, good)
 }
 
-// Each vector of the file, and the cases over the last one that has 125 bytes.
+// The message of the vector whose name stands at a place.
+fn sample(file: &[u8], at: usize) -> [u8; BLOCK]
+    requires { ⌜ at ≤ length (now file) ⌝ }
+{
+    let mut good = untouched();
+    vectors::bytes_said(line(file, next_line(file, at)), &mut good);
+    good
+}
+
+// Each vector of the file, and the claims over the last one.
 fn run(file: &[u8]) {
-    let mut tally = Tally {
-        cases: 0,
-        failed: 0,
-    };
+    let mut t = Tally::none();
     let mut at = 0;
-    let mut sample = 0;
+    let mut last = 0;
     while at < file.len() {
-        if text::is_name(file, at) {
-            tally = vectors::vector(tally, file, at);
-            sample = at;
+        if is_name(file, at) {
+            t = vectors::vector(t, file, at);
+            last = at;
         }
-        at = text::next_line(file, at);
+        at = next_line(file, at);
     }
-    let mut good = slices::untouched();
-    text::unhex(text::line(file, text::next_line(file, sample)), &mut good);
-    more(tally, slices::head(&good, 125));
+    let good = sample(file, last);
+    let t = more(t, &good);
+    t.report(b"message_vectors");
 }
 
 fn main() {

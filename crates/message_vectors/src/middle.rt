@@ -1,72 +1,66 @@
 // A header block of 200 bytes with the message in its middle: the reader is called on the part that starts there, and the writer too.
+ghost use Prim.Native.Nat.{_≤_};
+use crate::cases::BLOCK;
+use crate::cases::MESSAGE;
+use crate::cases::agree;
+use crate::cases::block_with;
+use crate::cases::fields_in;
+use crate::cases::head;
 use crate::cases::no_fields;
 use crate::cases::reads;
-use crate::slices::copy;
-use crate::slices::differing;
-use crate::slices::untouched;
-use crate::tell::Tally;
-use crate::tell::compare;
-use crate::tell::number;
-use crate::tell::say;
+use crate::cases::same_block;
+use crate::cases::say_read;
+use crate::cases::tail;
+use crate::cases::untouched;
 use message::Fields;
+use show::claim::Tally;
+use show::claim::say_verdict;
+use show::text::say;
+use show::text::say_number;
 
 // Where the message starts in the block.
 const START: usize = 17;
 
-// The part of the block from a place on is read, and what follows the message is looked at.
+// The part of the block from a place on is read.
 fn read_from(
-    tally: Tally,
-    block: &[u8],
+    t: Tally,
+    block: &[u8; BLOCK],
     at: usize,
-    refusal: u64,
+    number: u64,
     fields: Fields,
-    follows: u64,
-) -> Tally {
+    follows: usize,
+) -> Tally
+    requires { ⌜ at ≤ 200 ⌝ }
+{
+    let held = reads(tail(block, at), number, fields, follows);
+    say_verdict(held);
     say(b"a block of 200 bytes, its part from ");
-    number(at as u64);
-    say(b" on:");
-    if block.len() < at {
-        return tally.with(1);
-    }
-    tally.with(reads(&block[at..], refusal, fields, follows, 0))
-}
-
-fn write_from(fields: Fields, block: &mut [u8], at: usize) -> u64 {
-    if block.len() < at {
-        return 10;
-    }
-    let answer = message::write(fields, &mut block[at..]);
-    message::number_of(answer)
+    say_number(at as u64);
+    say(b" on");
+    say_read(number, follows);
+    say(b"\n");
+    t.count(held)
 }
 
 // The message is written into the middle of a block: every other byte of the block stays.
-fn write_into(tally: Tally, expected: &[u8], fields: Fields) -> Tally {
+fn write_into(t: Tally, expected: &[u8; BLOCK], fields: Fields) -> Tally {
     let mut block = untouched();
-    say(b"written into such a block from 17 on:");
-    let bad = compare(b" write", 0, write_from(fields, &mut block, START), 0);
-    tally.with(compare(
-        b", bytes of the block that differ",
-        0,
-        differing(&block, expected),
-        bad,
-    ))
+    let answer = message::write(fields, &mut block[START..]);
+    let held = agree(b"write", 0, message::number_of(answer)) && same_block(expected, &block);
+    say_verdict(held);
+    say(b"written into such a block from 17 on: write 0\n");
+    t.count(held)
 }
 
 // The part that starts at the message, parts that start beside it, one that is too short and one of no byte; then the writer.
-fn around(tally: Tally, block: &[u8], fields: Fields) -> Tally {
+pub fn middle(t: Tally, good: &[u8; BLOCK]) -> Tally {
+    let fields = fields_in(good);
     let none = no_fields();
-    let first = read_from(tally, block, START, 0, fields, 58);
-    let second = read_from(first, block, 16, 11, none, 184);
-    let third = read_from(second, block, 18, 11, none, 182);
-    let fourth = read_from(third, block, 76, 10, none, 124);
-    let fifth = read_from(fourth, block, 200, 10, none, 0);
-    write_into(fifth, block, fields)
-}
-
-pub fn middle(tally: Tally, good: &[u8]) -> Tally {
-    let mut block = untouched();
-    copy(good, &mut block, START, 125);
-    let found = message::read(good);
-    let fields = found.fields;
-    around(tally, &block, fields)
+    let block = block_with(head(good, MESSAGE), START);
+    let t = read_from(t, &block, START, 0, fields, 58);
+    let t = read_from(t, &block, 16, 11, none, 184);
+    let t = read_from(t, &block, 18, 11, none, 182);
+    let t = read_from(t, &block, 76, 10, none, 124);
+    let t = read_from(t, &block, 200, 10, none, 0);
+    write_into(t, &block, fields)
 }

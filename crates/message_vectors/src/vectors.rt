@@ -1,98 +1,125 @@
 // The vectors: a message with its addresses is read to the vector's fields and written back to the same bytes; one that ends before them, as
 // HDF5 writes it without persistence, is refused 10, since document 01's message always has 125 bytes.
+ghost use Prim.Native.Nat.{_≤_};
+ghost use lib.ListN.{length};
+use crate::cases::BLOCK;
+use crate::cases::MESSAGE;
+use crate::cases::NUMBERS;
+use crate::cases::block_with;
+use crate::cases::fields_of;
+use crate::cases::head;
 use crate::cases::no_fields;
 use crate::cases::reads;
+use crate::cases::say_read;
+use crate::cases::say_write;
+use crate::cases::untouched;
 use crate::cases::writes;
-use crate::slices::BLOCK;
-use crate::slices::head;
-use crate::slices::untouched;
-use crate::tell::Tally;
-use crate::tell::number;
-use crate::tell::say;
-use crate::text::byte_at;
-use crate::text::decimal;
-use crate::text::line;
-use crate::text::next_line;
-use crate::text::unhex;
+use crate::lines::line;
+use crate::lines::next_line;
 use message::Fields;
+use script::bytes::is_hex;
+use script::bytes::unhex;
+use script::numbers::Number;
+use script::numbers::number_of;
+use script::words::count_words;
+use script::words::next_word;
+use show::claim::Tally;
+use show::claim::say_verdict;
+use show::text::say;
+use show::text::say_number;
 
-// Six addresses, and the place behind them.
-struct Six {
-    values: [u64; 6],
-    next: usize,
+// The bytes that a line says, laid to the front of a block, and how many they are: none where it says too many, or no bytes.
+pub fn bytes_said(text: &[u8], out: &mut [u8; BLOCK]) -> usize
+    ensures { λ r. ⌜ r ≤ 200 ⌝ }
+{
+    let word = next_word(text, 0);
+    let from = word.from;
+    let to = word.to;
+    let hex = &text[from..to];
+    let n = hex.len() / 2;
+    if BLOCK < n {
+        return 0;
+    }
+    if is_hex(hex) {
+        unhex(hex, out);
+        return n;
+    }
+    0
 }
 
-fn six_at(text: &[u8], at: usize) -> Six {
-    let mut values = [0u64; 6];
-    let mut next = at;
+// The number that a word says, and 0 where it says none.
+fn value(word: &[u8]) -> u64 {
+    let Number::Is(n) = number_of(word) else {
+        return 0;
+    };
+    n
+}
+
+// The numbers of a line.
+fn numbers(text: &[u8]) -> [u64; NUMBERS] {
+    let mut found = [0u64; NUMBERS];
+    let mut at = 0;
     let mut i = 0;
-    while i < 6 {
-        let found = decimal(text, next);
-        values[i] = found.value;
-        next = found.next;
+    while i < NUMBERS {
+        let word = next_word(text, at);
+        let from = word.from;
+        let to = word.to;
+        found[i] = value(&text[from..to]);
+        at = to;
         i += 1;
     }
-    Six {
-        values: values,
-        next: next,
+    found
+}
+
+// A message with its addresses.
+fn whole(bytes: &[u8; BLOCK], n: usize, fields: Fields) -> bool
+    requires { ⌜ n ≤ 200 ⌝ }
+{
+    if n < MESSAGE {
+        return false;
     }
+    let same = block_with(head(bytes, MESSAGE), 0);
+    reads(head(bytes, n), 0, fields, n - MESSAGE) && writes(fields, BLOCK, 0, &same)
 }
 
-// The fields as the vector's third line has them.
-fn wanted(text: &[u8]) -> Fields {
-    let strategy = decimal(text, 0);
-    let persist = decimal(text, strategy.next);
-    let threshold = decimal(text, persist.next);
-    let page = decimal(text, threshold.next);
-    let page_end = decimal(text, page.next);
-    let eoa = decimal(text, page_end.next);
-    let small = six_at(text, eoa.next);
-    let large = six_at(text, small.next);
-    let small_values = small.values;
-    let large_values = large.values;
-    Fields {
-        strategy: (strategy.value % 256) as u8,
-        persist: (persist.value % 256) as u8,
-        threshold: threshold.value,
-        page: page.value,
-        page_end: (page_end.value % 65536) as u16,
-        eoa: eoa.value,
-        small: small_values,
-        large: large_values,
+// The end of a vector's claim.
+fn say_due(addresses: bool, n: usize) {
+    if addresses && MESSAGE <= n {
+        say_read(0, n - MESSAGE);
+        say_write(0);
+        say(b"\n");
+        return;
     }
+    say_read(10, n);
+    say(b"\n");
 }
 
-// The bytes behind a message in n bytes.
-fn behind(n: usize) -> u64 {
-    if 125 <= n { n as u64 - 125 } else { 0 }
-}
-
-// Whether the line is that of a message that has its addresses.
-fn has_addresses(text: &[u8]) -> bool {
-    0 < text.len() && byte_at(text, text.len() - 1) != b'-'
-}
-
-// The message is read to the vector's fields, and written back to its bytes and no more.
-fn kept(bytes: &[u8], expected: Fields) -> u64 {
-    let bad = reads(bytes, 0, expected, behind(bytes.len()), 0);
-    let found = message::read(bytes);
-    let fields = found.fields;
-    writes(fields, BLOCK, 0, bytes, 125, bad)
+// A vector with its name, its bytes in a block, and the line of its fields.
+fn claim(t: Tally, name: &[u8], bytes: &[u8; BLOCK], n: usize, said: &[u8]) -> Tally
+    requires { ⌜ n ≤ 200 ⌝ }
+{
+    let addresses = count_words(said, 0) == NUMBERS;
+    let held = if addresses {
+        whole(bytes, n, fields_of(numbers(said)))
+    } else {
+        reads(head(bytes, n), 10, no_fields(), n)
+    };
+    say_verdict(held);
+    say(name);
+    say(b", ");
+    say_number(n as u64);
+    say(b" bytes");
+    say_due(addresses, n);
+    t.count(held)
 }
 
 // The vector whose name stands at a place of the file, with its bytes and its fields in the next two lines.
-pub fn vector(tally: Tally, file: &[u8], at: usize) -> Tally {
+pub fn vector(t: Tally, file: &[u8], at: usize) -> Tally
+    requires { ⌜ at ≤ length (now file) ⌝ }
+{
     let hex_at = next_line(file, at);
     let fields_at = next_line(file, hex_at);
-    let third = line(file, fields_at);
     let mut bytes = untouched();
-    let n = unhex(line(file, hex_at), &mut bytes);
-    say(line(file, at));
-    say(b", ");
-    number(n as u64);
-    say(b" bytes:");
-    if has_addresses(third) {
-        return tally.with(kept(head(&bytes, n), wanted(third)));
-    }
-    tally.with(reads(head(&bytes, n), 10, no_fields(), n as u64, 0))
+    let n = bytes_said(line(file, hex_at), &mut bytes);
+    claim(t, line(file, at), &bytes, n, line(file, fields_at))
 }

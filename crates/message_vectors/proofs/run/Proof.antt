@@ -1,6 +1,7 @@
 -- `message_vectors::run` is safe and ends: each turn goes on to the next line, which starts behind the present place.
 -- Assumes nothing.
 use Prim.Native.Nat.{_≤_, _-_}
+use mathlib.Core.Logic.{⊎-elim}
 use native.Mathlib.Omega.{arith}
 use lib.ListN.{length}
 use borrow.Author.Needs.{needs}
@@ -8,10 +9,13 @@ use Rattle.message_vectors.proofs.run.Statement.{statement}
 use Rattle.message_vectors.proofs.run.Tie as tie
 
 abbrev Inv-loop : tie.InvT-loop
-Inv-loop file tally₀ at₀ sample₀ tally at sample = at ≤ length file
+Inv-loop file t₀ at₀ last₀ t7 t at last = (at ≤ length file) × (last ≤ length file)
 
 abbrev μ-loop : tie.MeasureT-loop
-μ-loop file tally₀ at₀ sample₀ tally at sample = length file - at
+μ-loop file t₀ at₀ last₀ t7 t at last = length file - at
+
+none-requires : tie.Need-none-requires Inv-loop μ-loop
+none-requires c κs = search needs
 
 loop-holds : tie.Need-loop-holds Inv-loop μ-loop
 loop-holds c = search needs
@@ -26,34 +30,25 @@ next-line-requires : tie.Need-next-line-requires Inv-loop μ-loop
 next-line-requires c κs = search needs
 
 loop-less : tie.Need-loop-less Inv-loop μ-loop
-loop-less c = omega (arith, c .next-line .ensures .1 (c .before .before .before .loop-test .taken))
+loop-less c =
+    let among = c .before .before .before .loop-test .taken in
+    omega (arith, c .next-line .ensures .1 among)
 
 loop-again : tie.Need-loop-again Inv-loop μ-loop
-loop-again c = search needs
+loop-again c =
+    (search needs, ⊎-elim (λ w. omega arith) (λ w. omega arith) (c .before .if1 .came))
 
-untouched-requires : tie.Need-untouched-requires Inv-loop μ-loop
-untouched-requires c κs = search needs
-
-next-line-requires-2 : tie.Need-next-line-requires-2 Inv-loop μ-loop
-next-line-requires-2 c κs = search needs
-
-line-requires : tie.Need-line-requires Inv-loop μ-loop
-line-requires c κs = search needs
-
-slice-aggregate-unhex : tie.Need-slice-aggregate-unhex Inv-loop μ-loop
-slice-aggregate-unhex c = search needs
-
-unhex-requires : tie.Need-unhex-requires Inv-loop μ-loop
-unhex-requires c κs = search needs
-
-slice-aggregate-head : tie.Need-slice-aggregate-head Inv-loop μ-loop
-slice-aggregate-head c = search needs
-
-head-requires : tie.Need-head-requires Inv-loop μ-loop
-head-requires c κs = search needs
+sample-requires : tie.Need-sample-requires Inv-loop μ-loop
+sample-requires c κs = search needs
 
 more-requires : tie.Need-more-requires Inv-loop μ-loop
 more-requires c κs = search needs
+
+slice-aggregate-report : tie.Need-slice-aggregate-report Inv-loop μ-loop
+slice-aggregate-report c = search needs
+
+report-requires : tie.Need-report-requires Inv-loop μ-loop
+report-requires c κs = search needs
 
 returns : tie.Need-returns Inv-loop μ-loop
 returns c = search needs
@@ -64,18 +59,15 @@ run-spec =
     (tie.spec
     Inv-loop
     μ-loop
+    none-requires
     loop-holds
     is-name-requires
     vector-requires
     next-line-requires
     loop-less
     loop-again
-    untouched-requires
-    next-line-requires-2
-    line-requires
-    slice-aggregate-unhex
-    unhex-requires
-    slice-aggregate-head
-    head-requires
+    sample-requires
     more-requires
+    slice-aggregate-report
+    report-requires
     returns)

@@ -6,13 +6,13 @@ use Rattle.message_vectors.proofs.edges.edges.Statement.{statement}
 use Rattle.message_vectors.proofs.edges.edges.Tie as tie
 
 abbrev Inv-loop : tie.InvT-loop
-Inv-loop good fields counted₀ i₀ counted i = i ≤ 10
+Inv-loop good fields t₀ i₀ t i = i ≤ 10
 
 abbrev μ-loop : tie.MeasureT-loop
-μ-loop good fields counted₀ i₀ counted i = 10 - i
+μ-loop good fields t₀ i₀ t i = 10 - i
 
-read-requires : tie.Need-read-requires Inv-loop μ-loop
-read-requires c κs = search needs
+fields-in-requires : tie.Need-fields-in-requires Inv-loop μ-loop
+fields-in-requires c κs = search needs
 
 loop-holds : tie.Need-loop-holds Inv-loop μ-loop
 loop-holds c = search needs
@@ -20,8 +20,8 @@ loop-holds c = search needs
 with-requires : tie.Need-with-requires Inv-loop μ-loop
 with-requires c κs = search needs
 
-keeps-requires : tie.Need-keeps-requires Inv-loop μ-loop
-keeps-requires c κs = search needs
+array-read-edge : tie.Need-array-read-edge Inv-loop μ-loop
+array-read-edge c = search needs
 
 edge-requires : tie.Need-edge-requires Inv-loop μ-loop
 edge-requires c κs = search needs
@@ -44,10 +44,10 @@ edges-spec =
     (tie.spec
     Inv-loop
     μ-loop
-    read-requires
+    fields-in-requires
     loop-holds
     with-requires
-    keeps-requires
+    array-read-edge
     edge-requires
     add-i
     loop-less
