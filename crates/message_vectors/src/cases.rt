@@ -2,11 +2,13 @@
 ghost use mathlib.Core.Path.{_≡_};
 ghost use Prim.Native.Nat.{_+_, _≤_};
 ghost use lib.ListN.{length};
+use crate::tell;
+use crate::tell::agree;
+use crate::tell::item;
 use message::Fields;
 use script::text::lay;
 use script::words::is_text;
 use show::text::say;
-use show::text::say_number;
 use show::words::same_words;
 
 // How long a message is.
@@ -88,31 +90,17 @@ pub fn no_fields() -> Fields {
     fields_of([0; NUMBERS])
 }
 
-// Whether a number is this one.
-pub fn agree(what: &[u8], expected: u64, found: u64) -> bool {
-    if expected == found {
-        return true;
-    }
-    say(what);
-    say(b": expected ");
-    say_number(expected);
-    say(b", found ");
-    say_number(found);
-    say(b"\n");
-    false
-}
-
 fn same_six(a: [u64; 6], b: [u64; 6]) -> bool {
     same_words(&a, &b)
 }
 
 fn same_heads(a: Fields, b: Fields) -> bool {
-    agree(b"strategy", a.strategy as u64, b.strategy as u64)
-        && agree(b"persist", a.persist as u64, b.persist as u64)
-        && agree(b"threshold", a.threshold, b.threshold)
-        && agree(b"page size", a.page, b.page)
-        && agree(b"page-end threshold", a.page_end as u64, b.page_end as u64)
-        && agree(b"EOA", a.eoa, b.eoa)
+    agree(tell::STRATEGY, a.strategy as u64, b.strategy as u64)
+        && agree(tell::PERSIST, a.persist as u64, b.persist as u64)
+        && agree(tell::THRESHOLD, a.threshold, b.threshold)
+        && agree(tell::PAGE, a.page, b.page)
+        && agree(tell::PAGE_END, a.page_end as u64, b.page_end as u64)
+        && agree(tell::EOA, a.eoa, b.eoa)
 }
 
 fn same_fields(a: Fields, b: Fields) -> bool {
@@ -132,13 +120,13 @@ fn answers(bytes: &[u8], number: u64, fields: Fields) -> bool {
     let found = message::read(bytes);
     let answer = found.answer;
     let found_fields = found.fields;
-    agree(b"read", number, message::number_of(answer)) && same_fields(fields, found_fields)
+    agree(tell::READ, number, message::number_of(answer)) && same_fields(fields, found_fields)
 }
 
 // Whether the bytes are read so: the answer's number, the fields, and how many bytes follow.
 pub fn reads(bytes: &[u8], number: u64, fields: Fields, follows: usize) -> bool {
     let rest = message::rest(bytes);
-    agree(b"bytes that follow", follows as u64, rest.len() as u64) && answers(bytes, number, fields)
+    agree(tell::FOLLOW, follows as u64, rest.len() as u64) && answers(bytes, number, fields)
 }
 
 // Whether a block has the bytes of another.
@@ -156,20 +144,11 @@ pub fn writes(fields: Fields, n: usize, number: u64, expected: &[u8; BLOCK]) -> 
 {
     let mut block = untouched();
     let answer = message::write(fields, &mut block[..n]);
-    agree(b"write", number, message::number_of(answer)) && same_block(expected, &block)
+    agree(tell::WRITE, number, message::number_of(answer)) && same_block(expected, &block)
 }
 
 // What a claim says of a read message.
 pub fn say_read(number: u64, follows: usize) {
-    say(b": read ");
-    say_number(number);
-    say(b", ");
-    say_number(follows as u64);
-    say(b" bytes follow");
-}
-
-// What a claim says of a written one.
-pub fn say_write(number: u64) {
-    say(b", write ");
-    say_number(number);
+    item(tell::READ, number);
+    item(tell::FOLLOW, follows as u64);
 }

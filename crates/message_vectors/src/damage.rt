@@ -2,14 +2,18 @@
 ghost use Prim.Native.Nat.{_<_};
 use crate::cases::BLOCK;
 use crate::cases::MESSAGE;
-use crate::cases::agree;
 use crate::cases::block_with;
 use crate::cases::head;
+use crate::tell;
+use crate::tell::agree;
+use crate::tell::end;
+use crate::tell::finish;
+use crate::tell::item;
+use crate::tell::label;
+use crate::tell::labelled;
 use script::text::lay;
 use show::claim::Tally;
 use show::claim::say_verdict;
-use show::text::say;
-use show::text::say_number;
 
 // What read answers for the good message with another byte at a place.
 fn answer_with(good: &[u8; BLOCK], at: usize, byte: u8) -> u64
@@ -35,12 +39,11 @@ fn is_due(good: &[u8; BLOCK], at: usize, value: u8, first: u8, last: u8, refusal
     requires { ⌜ at < 200 ⌝ }
 {
     let found = answer_with(good, at, value);
-    if agree(b"read", due(value, first, last, refusal), found) {
+    if agree(tell::READ, due(value, first, last, refusal), found) {
         return true;
     }
-    say(b"of the value ");
-    say_number(value as u64);
-    say(b"\n");
+    labelled(tell::BYTES, value as u64);
+    end();
     false
 }
 
@@ -58,11 +61,12 @@ fn are_due(good: &[u8; BLOCK], at: usize, first: u8, last: u8, refusal: u64) -> 
     true
 }
 
+// That the byte at a place, which a label names, is legal from `first` to `last`, and refused with this number else.
 fn damage(
     t: Tally,
     good: &[u8; BLOCK],
     at: usize,
-    name: &[u8],
+    name: u64,
     first: u8,
     last: u8,
     refusal: u64,
@@ -71,20 +75,16 @@ fn damage(
 {
     let held = are_due(good, at, first, last, refusal);
     say_verdict(held);
-    say(name);
-    say(b", in each of its 256 values: read 0 from ");
-    say_number(first as u64);
-    say(b" to ");
-    say_number(last as u64);
-    say(b", ");
-    say_number(refusal);
-    say(b" for every other\n");
-    t.count(held)
+    label(name);
+    item(tell::FROM, first as u64);
+    item(tell::TO, last as u64);
+    item(tell::OTHERS, refusal);
+    finish(t, held)
 }
 
 // The good message has persist 1 and every address all ones.
 pub fn damages(t: Tally, good: &[u8; BLOCK]) -> Tally {
-    let t = damage(t, good, 0, b"byte 0, the version", 1, 1, 11);
-    let t = damage(t, good, 1, b"byte 1, the strategy", 0, 3, 12);
-    damage(t, good, 2, b"byte 2, persist", 0, 1, 12)
+    let t = damage(t, good, 0, tell::BYTE_0, 1, 1, 11);
+    let t = damage(t, good, 1, tell::BYTE_1, 0, 3, 12);
+    damage(t, good, 2, tell::BYTE_2, 0, 1, 12)
 }

@@ -3,18 +3,18 @@
 ghost use Prim.Native.Nat.{_<_};
 use crate::cases::BLOCK;
 use crate::cases::MESSAGE;
-use crate::cases::agree;
 use crate::cases::fields_in;
 use crate::cases::reads;
 use crate::cases::say_read;
-use crate::cases::say_write;
 use crate::cases::untouched;
 use crate::cases::writes;
+use crate::tell;
+use crate::tell::agree;
+use crate::tell::begin;
+use crate::tell::finish;
+use crate::tell::item;
 use message::Fields;
 use show::claim::Tally;
-use show::claim::say_verdict;
-use show::text::say;
-use show::text::say_number;
 
 // A case has one place in each of these: page size, strategy, persist, the last small address, and whether the fields keep the rules.
 const CASES: usize = 10;
@@ -78,7 +78,7 @@ fn with(fields: Fields, i: usize) -> Fields
 fn kept(fields: Fields) -> bool {
     let mut block = untouched();
     let answer = message::write(fields, &mut block);
-    agree(b"write", 0, message::number_of(answer)) && reads(&block, 0, fields, BLOCK - MESSAGE)
+    agree(tell::WRITE, 0, message::number_of(answer)) && reads(&block, 0, fields, BLOCK - MESSAGE)
 }
 
 // Fields that break one are refused.
@@ -87,30 +87,28 @@ fn broken(fields: Fields) -> bool {
     writes(fields, BLOCK, 12, &blank) && writes(fields, 0, 12, &blank)
 }
 
-fn say_fields(fields: Fields) {
+// What the claim of a case says of its fields.
+fn say_fields(held: bool, fields: Fields) {
     let small = fields.small;
-    say(b"page size ");
-    say_number(fields.page);
-    say(b", strategy ");
-    say_number(fields.strategy as u64);
-    say(b", persist ");
-    say_number(fields.persist as u64);
-    say(b", the last small address ");
-    say_number(small[5]);
+    begin(held, tell::PAGE, fields.page);
+    item(tell::STRATEGY, fields.strategy as u64);
+    item(tell::PERSIST, fields.persist as u64);
+    item(tell::ADDRESS, small[5]);
 }
 
 fn edge(t: Tally, fields: Fields, keeps: bool) -> Tally {
-    let held = if keeps { kept(fields) } else { broken(fields) };
-    say_verdict(held);
-    say_fields(fields);
     if keeps {
+        let held = kept(fields);
+        say_fields(held, fields);
+        item(tell::WRITE, 0);
         say_read(0, BLOCK - MESSAGE);
-        say_write(0);
-        say(b"\n");
-    } else {
-        say(b": write 12, also where no byte is lent\n");
+        return finish(t, held);
     }
-    t.count(held)
+    let held = broken(fields);
+    say_fields(held, fields);
+    item(tell::WRITE, 12);
+    item(tell::INTO_NONE, 12);
+    finish(t, held)
 }
 
 // The fields of the good message have every address all ones.

@@ -9,14 +9,14 @@ use crate::cases::head;
 use crate::cases::no_fields;
 use crate::cases::reads;
 use crate::cases::say_read;
-use crate::cases::say_write;
 use crate::cases::untouched;
 use crate::cases::writes;
+use crate::tell;
+use crate::tell::begin;
+use crate::tell::finish;
+use crate::tell::item;
 use message::Fields;
 use show::claim::Tally;
-use show::claim::say_verdict;
-use show::text::say;
-use show::text::say_number;
 
 // That n bytes of the block are read so, and the fields written into as many.
 fn length(
@@ -32,13 +32,10 @@ fn length(
     requires { ⌜ n ≤ 200 ⌝ }
 {
     let held = reads(head(block, n), number, found, follows) && writes(fields, n, number, expected);
-    say_verdict(held);
-    say(b"length ");
-    say_number(n as u64);
+    begin(held, tell::LENGTH, n as u64);
     say_read(number, follows);
-    say_write(number);
-    say(b"\n");
-    t.count(held)
+    item(tell::WRITE, number);
+    finish(t, held)
 }
 
 pub fn lengths(t: Tally, good: &[u8; BLOCK]) -> Tally {

@@ -7,6 +7,7 @@ mod edges;
 mod lengths;
 mod lines;
 mod middle;
+mod tell;
 mod vectors;
 
 ghost use Prim.Native.Nat.{_≤_};

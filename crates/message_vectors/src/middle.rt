@@ -2,7 +2,6 @@
 ghost use Prim.Native.Nat.{_≤_};
 use crate::cases::BLOCK;
 use crate::cases::MESSAGE;
-use crate::cases::agree;
 use crate::cases::block_with;
 use crate::cases::fields_in;
 use crate::cases::head;
@@ -12,11 +11,13 @@ use crate::cases::same_block;
 use crate::cases::say_read;
 use crate::cases::tail;
 use crate::cases::untouched;
+use crate::tell;
+use crate::tell::agree;
+use crate::tell::begin;
+use crate::tell::finish;
+use crate::tell::item;
 use message::Fields;
 use show::claim::Tally;
-use show::claim::say_verdict;
-use show::text::say;
-use show::text::say_number;
 
 // Where the message starts in the block.
 const START: usize = 17;
@@ -33,23 +34,19 @@ fn read_from(
     requires { ⌜ at ≤ 200 ⌝ }
 {
     let held = reads(tail(block, at), number, fields, follows);
-    say_verdict(held);
-    say(b"a block of 200 bytes, its part from ");
-    say_number(at as u64);
-    say(b" on");
+    begin(held, tell::PART, at as u64);
     say_read(number, follows);
-    say(b"\n");
-    t.count(held)
+    finish(t, held)
 }
 
 // The message is written into the middle of a block: every other byte of the block stays.
 fn write_into(t: Tally, expected: &[u8; BLOCK], fields: Fields) -> Tally {
     let mut block = untouched();
     let answer = message::write(fields, &mut block[START..]);
-    let held = agree(b"write", 0, message::number_of(answer)) && same_block(expected, &block);
-    say_verdict(held);
-    say(b"written into such a block from 17 on: write 0\n");
-    t.count(held)
+    let held = agree(tell::WRITE, 0, message::number_of(answer)) && same_block(expected, &block);
+    begin(held, tell::INTO, START as u64);
+    item(tell::WRITE, 0);
+    finish(t, held)
 }
 
 // The part that starts at the message, parts that start beside it, one that is too short and one of no byte; then the writer.

@@ -11,11 +11,13 @@ use crate::cases::head;
 use crate::cases::no_fields;
 use crate::cases::reads;
 use crate::cases::say_read;
-use crate::cases::say_write;
 use crate::cases::untouched;
 use crate::cases::writes;
 use crate::lines::line;
 use crate::lines::next_line;
+use crate::tell;
+use crate::tell::finish;
+use crate::tell::item;
 use message::Fields;
 use script::bytes::is_hex;
 use script::bytes::unhex;
@@ -26,12 +28,9 @@ use script::words::next_word;
 use show::claim::Tally;
 use show::claim::say_verdict;
 use show::text::say;
-use show::text::say_number;
 
 // The bytes that a line says, laid to the front of a block, and how many they are: none where it says too many, or no bytes.
-pub fn bytes_said(text: &[u8], out: &mut [u8; BLOCK]) -> usize
-    ensures { λ r. ⌜ r ≤ 200 ⌝ }
-{
+pub fn bytes_said(text: &[u8], out: &mut [u8; BLOCK]) -> usize {
     let word = next_word(text, 0);
     let from = word.from;
     let to = word.to;
@@ -71,46 +70,40 @@ fn numbers(text: &[u8]) -> [u64; NUMBERS] {
     found
 }
 
-// A message with its addresses.
-fn whole(bytes: &[u8; BLOCK], n: usize, fields: Fields) -> bool
-    requires { ⌜ n ≤ 200 ⌝ }
-{
-    if n < MESSAGE {
-        return false;
+// How many bytes stand behind the message in n bytes.
+fn behind(n: usize) -> usize {
+    if MESSAGE <= n {
+        return n - MESSAGE;
     }
-    let same = block_with(head(bytes, MESSAGE), 0);
-    reads(head(bytes, n), 0, fields, n - MESSAGE) && writes(fields, BLOCK, 0, &same)
+    0
 }
 
-// The end of a vector's claim.
-fn say_due(addresses: bool, n: usize) {
-    if addresses && MESSAGE <= n {
-        say_read(0, n - MESSAGE);
-        say_write(0);
-        say(b"\n");
-        return;
-    }
-    say_read(10, n);
-    say(b"\n");
+// Whether a message with its addresses is read and written back.
+fn whole(bytes: &[u8; BLOCK], n: usize, fields: Fields) -> bool {
+    let same = block_with(head(bytes, MESSAGE), 0);
+    reads(head(bytes, n), 0, fields, behind(n)) && writes(fields, BLOCK, 0, &same)
 }
 
 // A vector with its name, its bytes in a block, and the line of its fields.
-fn claim(t: Tally, name: &[u8], bytes: &[u8; BLOCK], n: usize, said: &[u8]) -> Tally
-    requires { ⌜ n ≤ 200 ⌝ }
-{
-    let addresses = count_words(said, 0) == NUMBERS;
-    let held = if addresses {
-        whole(bytes, n, fields_of(numbers(said)))
-    } else {
-        reads(head(bytes, n), 10, no_fields(), n)
-    };
+fn claim(t: Tally, name: &[u8], bytes: &[u8; BLOCK], n: usize, said: &[u8]) -> Tally {
+    if count_words(said, 0) == NUMBERS {
+        let held = whole(bytes, n, fields_of(numbers(said)));
+        say_vector(held, name, n);
+        say_read(0, behind(n));
+        item(tell::WRITE, 0);
+        return finish(t, held);
+    }
+    let held = reads(head(bytes, n), 10, no_fields(), n);
+    say_vector(held, name, n);
+    say_read(10, n);
+    finish(t, held)
+}
+
+// How a vector's claim begins.
+fn say_vector(held: bool, name: &[u8], n: usize) {
     say_verdict(held);
     say(name);
-    say(b", ");
-    say_number(n as u64);
-    say(b" bytes");
-    say_due(addresses, n);
-    t.count(held)
+    item(tell::BYTES, n as u64);
 }
 
 // The vector whose name stands at a place of the file, with its bytes and its fields in the next two lines.

@@ -18,9 +18,6 @@ slice-aggregate-write c = sym (length-take-le _ _ (search needs))
 write-requires : tie.Need-write-requires
 write-requires c κs = search needs
 
-slice-aggregate-agree : tie.Need-slice-aggregate-agree
-slice-aggregate-agree c = search needs
-
 number-of-requires : tie.Need-number-of-requires
 number-of-requires c κs = search needs
 
@@ -44,7 +41,6 @@ writes-spec =
     array-borrow-prefix-block
     slice-aggregate-write
     write-requires
-    slice-aggregate-agree
     number-of-requires
     agree-requires
     same-block-requires
