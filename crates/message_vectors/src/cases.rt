@@ -1,5 +1,4 @@
 // What a case asks of the message. A question answers whether all is as expected, and prints what is not.
-ghost use mathlib.Core.Path.{_≡_};
 ghost use Prim.Native.Nat.{_+_, _≤_};
 ghost use lib.ListN.{length};
 use crate::tell;

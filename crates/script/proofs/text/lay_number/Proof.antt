@@ -1,6 +1,5 @@
 -- `script::text::lay_number` meets its contract: the digits that `io::decimal` made are laid.
 -- Assumes nothing.
-use Prim.Native.Nat.{_≤_}
 use native.Mathlib.Omega.{arith}
 use borrow.Author.Needs.{needs}
 use Rattle.script.proofs.DecimalLaws.{few-places}

@@ -1,6 +1,6 @@
 -- `script::words::blanks_end` meets its contract: i and the run of blanks that starts there always end at the same place.
 -- Assumes nothing.
-use Prim.Native.Nat.{_≤_, _<_, _-_}
+use Prim.Native.Nat.{_-_}
 use mathlib.Core.Path.{sym, _∙_}
 use lib.ListN.{length}
 use borrow.Author.Needs.{needs}

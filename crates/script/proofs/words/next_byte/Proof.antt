@@ -1,6 +1,6 @@
 -- `script::words::next_byte` meets its contract: i and the run of other bytes that starts there always end at the same place.
 -- Assumes nothing.
-use Prim.Native.Nat.{_≤_, _<_, _-_}
+use Prim.Native.Nat.{_-_}
 use mathlib.Core.Bool.{not}
 use mathlib.Core.Path.{ap}
 use lib.ListN.{length}

@@ -1,6 +1,6 @@
 -- `script::words::word_end` meets its contract: i and the run of letters that starts there always end at the same place.
 -- Assumes nothing.
-use Prim.Native.Nat.{_≤_, _<_, _-_}
+use Prim.Native.Nat.{_-_}
 use mathlib.Core.Bool.{not}
 use mathlib.Core.Path.{sym, ap, _∙_}
 use lib.ListN.{length}
