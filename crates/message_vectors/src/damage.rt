@@ -42,7 +42,7 @@ fn is_due(good: &[u8; BLOCK], at: usize, value: u8, first: u8, last: u8, refusal
     if agree(tell::READ, due(value, first, last, refusal), found) {
         return true;
     }
-    labelled(tell::BYTES, value as u64);
+    labelled(tell::VALUE, value as u64);
     end();
     false
 }

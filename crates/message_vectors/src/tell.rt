@@ -48,11 +48,32 @@ pub const TO: u64 = 19;
 
 pub const OTHERS: u64 = 20;
 
+pub const VALUE: u64 = 21;
+
 pub fn label(k: u64) {
-    say_nth(
-        b"read \nbytes that follow \nwrite \nstrategy \npersist \nthreshold \npage size \npage-end threshold \nEOA \nthe last small address \nbytes \nlength \na block of 200 bytes, its part from \nwritten into such a block from \nwrite into no bytes \nbyte 0, the version\nbyte 1, the strategy\nbyte 2, persist\nlegal from \nto \nread of every other value ",
-        k,
-    );
+    let labels: &[u8] = b"read \n\
+                          bytes that follow \n\
+                          write \n\
+                          strategy \n\
+                          persist \n\
+                          threshold \n\
+                          page size \n\
+                          page-end threshold \n\
+                          EOA \n\
+                          the last small address \n\
+                          bytes \n\
+                          length \n\
+                          a block of 200 bytes, its part from \n\
+                          written into such a block from \n\
+                          write into no bytes \n\
+                          byte 0, the version\n\
+                          byte 1, the strategy\n\
+                          byte 2, persist\n\
+                          legal from \n\
+                          to \n\
+                          read of every other value \n\
+                          of the value ";
+    say_nth(labels, k);
 }
 
 // A number behind its label.
