@@ -7,8 +7,8 @@
 
 use crate::draw::Draw;
 use crate::message::{self, Fields, UNDEFINED};
-use crate::model::{self, Entry, Model, State, ENTRY_WORDS, FREE_LARGE, LARGEST_LIMIT, LARGEST_PAGE};
-use crate::script::{hex_of, joined, show_words, state_line, words_line, Machine};
+use crate::model::{self, table_of, Entry, Model, State, ENTRY_WORDS, FREE_LARGE, LARGEST_LIMIT, LARGEST_PAGE};
+use crate::script::{hex_of, joined, show_words, state_line, words_line, Machine, MOST_WORDS};
 
 const PAGES: [u64; 9] = [512, 512, 513, 1_000, 1_000, 1_023, 4_096, 65_536, LARGEST_PAGE];
 
@@ -328,7 +328,7 @@ impl Author<'_> {
             4 => s.end = self.near(s.end),
             5 => s.end = self.draw.pick(&[0, s.end.wrapping_sub(s.page), s.end.wrapping_add(s.page), u64::MAX]),
             6 => s.count = self.near(s.count),
-            _ => s.count = self.draw.pick(&[0, before.table.len() as u64 / 3, 1 << 62, (1 << 63) + s.count, u64::MAX]),
+            _ => s.count = self.draw.pick(&[0, (before.table.len() / ENTRY_WORDS) as u64, 1 << 62, (1 << 63) + s.count, u64::MAX]),
         }
         self.say(state_line(&s));
         self.try_and_restore(before);
@@ -369,7 +369,10 @@ impl Author<'_> {
             0 => length.saturating_sub(1),
             1 => length + 1,
             2 => length.saturating_sub(ENTRY_WORDS),
-            _ => self.draw.pick(&[0, 9, 12, length + 3, length + 6, 3_072, 3_075, 6_144]),
+            _ => {
+                let whole = [3, 4, 1_024, 1_025].map(|entries| entries * ENTRY_WORDS);
+                self.draw.pick(&[0, whole[0], whole[1], length + ENTRY_WORDS, length + 2 * ENTRY_WORDS, whole[2], whole[3], MOST_WORDS])
+            }
         };
         table.resize(length, 0);
     }
@@ -394,10 +397,7 @@ impl Author<'_> {
         let capacity = model.table.len() / ENTRY_WORDS;
         entries.truncate(capacity);
         model.state.count = entries.len() as u64;
-        model.table.fill(0);
-        for (words, e) in model.table.chunks_mut(ENTRY_WORDS).zip(&entries) {
-            words.copy_from_slice(&[e.address, e.size, e.kind]);
-        }
+        model.table = table_of(&entries, model.table.len());
     }
 
     /// The border between an entry and the next one moves.

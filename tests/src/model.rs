@@ -16,8 +16,8 @@ pub const LARGEST_LIMIT: u64 = 1 << 62;
 pub const DEFAULT_PAGE: u64 = 4096;
 pub const DEFAULT_LIMIT: u64 = LARGEST_LIMIT;
 pub const ENTRY_WORDS: usize = 3;
-const LEAST_TABLE: usize = 12;
-const LARGEST_TABLE: usize = 3072;
+const LEAST_TABLE: usize = 4 * ENTRY_WORDS;
+const LARGEST_TABLE: usize = 1_024 * ENTRY_WORDS;
 
 pub const METADATA: u64 = 1;
 pub const RAW: u64 = 2;
@@ -106,8 +106,12 @@ fn free_kind(class: u64) -> u64 {
 }
 
 impl Entry {
-    fn of([address, size, kind]: [u64; ENTRY_WORDS]) -> Entry {
-        Entry { address, size, kind }
+    fn of(words: &[u64]) -> Entry {
+        Entry { address: words[0], size: words[1], kind: words[2] }
+    }
+
+    fn words(&self) -> [u64; ENTRY_WORDS] {
+        [self.address, self.size, self.kind]
     }
 
     /// Where the entry ends: the first address behind it.
@@ -145,7 +149,14 @@ impl Entry {
 pub fn entries_of(table: &[u64], count: u64) -> Option<Vec<Entry>> {
     let words = usize::try_from(count).ok()?.checked_mul(ENTRY_WORDS)?;
     let entries = table.get(..words)?.chunks_exact(ENTRY_WORDS);
-    Some(entries.map(|words| Entry::of([words[0], words[1], words[2]])).collect())
+    Some(entries.map(Entry::of).collect())
+}
+
+/// A table of so many words that has these entries, and 0 in every word after them.
+pub fn table_of(entries: &[Entry], words: usize) -> Vec<u64> {
+    let mut table: Vec<u64> = entries.iter().flat_map(Entry::words).collect();
+    table.resize(words, 0);
+    table
 }
 
 /// "A table is sound when all of this holds", in the document's order.
@@ -316,10 +327,7 @@ impl Model {
         }
         self.state = draft.state;
         self.state.count = draft.entries.len() as u64;
-        self.table.fill(0);
-        for (words, entry) in self.table.chunks_exact_mut(ENTRY_WORDS).zip(&draft.entries) {
-            words.copy_from_slice(&[entry.address, entry.size, entry.kind]);
-        }
+        self.table = table_of(&draft.entries, self.table.len());
         Ok(())
     }
 
@@ -393,7 +401,7 @@ impl Draft {
         if u128::from(self.state.end) + growth > u128::from(self.state.limit) {
             return Err(BEYOND_LIMIT);
         }
-        let grown = Entry::of([self.state.end, growth as u64, FREE_LARGE]);
+        let grown = Entry { address: self.state.end, size: growth as u64, kind: FREE_LARGE };
         self.entries.push(grown);
         self.state.end += grown.size;
         Ok(grown)

@@ -10,7 +10,7 @@ use crate::model::{Model, Refusal, State, DEFAULT_LIMIT, DEFAULT_PAGE, ENTRY_WOR
 
 pub const LONGEST_LINE: usize = 100_000;
 pub const MOST_ENTRIES: u64 = 2_048;
-pub const MOST_WORDS: usize = 6_144;
+pub const MOST_WORDS: usize = MOST_ENTRIES as usize * ENTRY_WORDS;
 pub const MOST_ROOM: u64 = 4_096;
 const LENT_BYTE: u8 = 0xaa;
 

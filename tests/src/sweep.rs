@@ -4,14 +4,25 @@
 //!   scripts    all of them; they are the same in every run
 
 use crate::message::{bytes_of, Fields, LENGTH, UNDEFINED};
-use crate::model::{State, ENTRY_WORDS, LARGEST_LIMIT};
+use crate::model::{table_of, Entry, State, ENTRY_WORDS, LARGEST_LIMIT};
 use crate::script::{hex_of, show_words, state_line, words_line, LONGEST_LINE, MOST_WORDS};
 
 /// Document 01's state and table after step 5.
 const STATE: State = State { page: 512, limit: 5_120, end: 2_560, count: 8 };
-const TABLE: [u64; 36] = [
-    0, 96, 1, 96, 416, 1, 512, 100, 2, 612, 412, 5, 1024, 700, 3, 1724, 324, 6, 2048, 10, 1, 2058, 502, 4, 0, 0, 0, 0, 0, 0, 0, 0, 0, 0, 0, 0,
+const ENTRIES: [Entry; 8] = [
+    Entry { address: 0, size: 96, kind: 1 },
+    Entry { address: 96, size: 416, kind: 1 },
+    Entry { address: 512, size: 100, kind: 2 },
+    Entry { address: 612, size: 412, kind: 5 },
+    Entry { address: 1_024, size: 700, kind: 3 },
+    Entry { address: 1_724, size: 324, kind: 6 },
+    Entry { address: 2_048, size: 10, kind: 1 },
+    Entry { address: 2_058, size: 502, kind: 4 },
 ];
+
+fn table() -> Vec<u64> {
+    table_of(&ENTRIES, 12 * ENTRY_WORDS)
+}
 
 pub fn scripts() -> Vec<Vec<String>> {
     let damaged = [each_word(), each_number_of_the_state(), each_length_of_a_table()];
@@ -35,9 +46,9 @@ fn probes() -> [String; 3] {
 }
 
 /// The numbers with each of them changed in turn.
-fn each_change<const N: usize>(numbers: [u64; N]) -> Vec<[u64; N]> {
-    let changed = |i: usize, to: u64| std::array::from_fn(|k| if k == i { to } else { numbers[k] });
-    (0..N).flat_map(|i| changes(numbers[i]).map(|to| changed(i, to))).collect()
+fn each_change(numbers: &[u64]) -> Vec<Vec<u64>> {
+    let changed = |i: usize, to: u64| (0..numbers.len()).map(|k| if k == i { to } else { numbers[k] }).collect();
+    (0..numbers.len()).flat_map(|i| changes(numbers[i]).map(|to| changed(i, to))).collect()
 }
 
 /// Each state with its table, probed.
@@ -51,18 +62,19 @@ fn probed(spaces: impl IntoIterator<Item = (State, Vec<u64>)>) -> Vec<String> {
 }
 
 fn each_word() -> Vec<String> {
-    probed(each_change(TABLE).into_iter().map(|table| (STATE, table.to_vec())))
+    probed(each_change(&table()).into_iter().map(|table| (STATE, table)))
 }
 
 fn each_number_of_the_state() -> Vec<String> {
-    probed(each_change(STATE.numbers()).into_iter().map(|state| (State::of(state), TABLE.to_vec())))
+    probed(each_change(&STATE.numbers()).into_iter().map(|s| (State::of([s[0], s[1], s[2], s[3]]), table())))
 }
 
-/// The table cut short or with zero words behind it: sound from 24 words on, at multiples of 3.
+/// The table cut short or with zero words behind it: sound from its entries on, where the words are those of whole entries.
 fn each_length_of_a_table() -> Vec<String> {
-    let lengths = (0..48).chain([3_069, 3_070, 3_072, 3_073, 3_075, MOST_WORDS]);
+    let most = 1_024 * ENTRY_WORDS;
+    let lengths = (0..16 * ENTRY_WORDS).chain([most - ENTRY_WORDS, most - ENTRY_WORDS + 1, most, most + 1, most + ENTRY_WORDS, MOST_WORDS]);
     probed(lengths.map(|length| {
-        let mut table = TABLE.to_vec();
+        let mut table = table();
         table.resize(length, 0);
         (STATE, table)
     }))
@@ -79,12 +91,13 @@ fn choices(of: &[u64], count: usize) -> Vec<Vec<u64>> {
 
 /// Entries of these sizes and kinds, one behind the other, in a table of 4; the first one is released. Sums go round at 2^64.
 fn in_a_row(page: u64, sizes: &[u64], kinds: &[u64]) -> [String; 4] {
-    let mut table = [0; 4 * ENTRY_WORDS];
+    let mut entries = Vec::new();
     let mut end: u64 = 0;
-    for (words, (size, kind)) in table.chunks_mut(ENTRY_WORDS).zip(sizes.iter().zip(kinds)) {
-        words.copy_from_slice(&[end, *size, *kind]);
+    for (size, kind) in sizes.iter().zip(kinds) {
+        entries.push(Entry { address: end, size: *size, kind: *kind });
         end = end.wrapping_add(*size);
     }
+    let table = table_of(&entries, 4 * ENTRY_WORDS);
     let state = State { page, limit: LARGEST_LIMIT, end, count: sizes.len() as u64 };
     [state_line(&state), words_line(&table), format!("release 0 {}", sizes[0]), show_words()]
 }
@@ -106,7 +119,9 @@ fn each_small_table(page: u64) -> Vec<String> {
 /// The largest table with all entries taken, 512 pages of a small piece and a free rest: calls that need an entry more, and calls that need
 /// none.
 fn largest_table() -> Vec<String> {
-    let table: Vec<u64> = (0..512).map(|i| 512 * i).flat_map(|at| [at, 300, 1, at + 300, 212, 4]).collect();
+    let page = |at: u64| [Entry { address: at, size: 300, kind: 1 }, Entry { address: at + 300, size: 212, kind: 4 }];
+    let entries: Vec<Entry> = (0..512).flat_map(|i| page(512 * i)).collect();
+    let table = table_of(&entries, 1_024 * ENTRY_WORDS);
     let calls = [
         "allocate metadata 213",
         "allocate metadata 211",
