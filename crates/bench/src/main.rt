@@ -7,15 +7,17 @@ ghost use lib.ListN.{length};
 ghost use Rattle.pieces.specs.Words.{entryWords};
 use pieces::ENTRY_WORDS;
 use space::Space;
-use space::answers::AllocateAnswer;
-use space::answers::ReleaseAnswer;
+use space::answers::DONE;
+use space::answers::address_of;
+use space::answers::allocate_number;
+use space::answers::release_number;
 use std::num::wrapping_add_u64;
 
 const PAGE: u64 = 4096;
 
 const LIMIT: u64 = 4611686018427387904;
 
-const MOST_WORDS: usize = 3072;
+const MOST_WORDS: usize = 1024 * ENTRY_WORDS;
 
 const LARGEST_SMALL: u64 = 1024;
 
@@ -66,37 +68,25 @@ fn size_of(draw: u64) -> u64 {
     1 + bits % LARGEST_SMALL
 }
 
-// What an allocation answered, as one number for the checksum: refusals count down from the largest number.
-fn allocated(answer: AllocateAnswer) -> u64 {
-    match answer {
-        AllocateAnswer::At(a) => a,
-        AllocateAnswer::NotSound => u64::MAX - 2,
-        AllocateAnswer::UnknownType => u64::MAX - 3,
-        AllocateAnswer::NoBytes => u64::MAX - 4,
-        AllocateAnswer::BeyondLimit => u64::MAX - 5,
-        AllocateAnswer::TableFull => u64::MAX - 6,
+// What a call answered, as one number for the checksum: refusals count down from the largest number.
+fn answered(number: u64, given: u64) -> u64 {
+    if number == DONE {
+        return given;
     }
+    u64::MAX - number
 }
 
-fn released(answer: ReleaseAnswer) -> u64 {
-    match answer {
-        ReleaseAnswer::Done => 0,
-        ReleaseAnswer::NotSound => u64::MAX - 2,
-        ReleaseAnswer::NotLive => u64::MAX - 7,
-        ReleaseAnswer::TableFull => u64::MAX - 6,
-    }
-}
-
-// What is kept behind a call that handed back this space with this answer.
-fn noted(run: Run, space: Space, draw: u64, answer: u64) -> Run {
+// What is kept behind a call that handed back this space with this number, and gave this where it was accepted.
+fn noted(run: Run, space: Space, draw: u64, number: u64, given: u64) -> Run {
     let mut accepted = run.accepted;
-    if answer < u64::MAX - 7 {
+    if number == DONE {
         accepted = wrapping_add_u64(accepted, 1);
     }
+    let sum = summed(run.sum, answered(number, given));
     Run {
         space,
         draw,
-        sum: summed(summed(summed(run.sum, answer), space.end), space.count),
+        sum: summed(summed(sum, space.end), space.count),
         accepted,
         entries: wrapping_add_u64(run.entries, space.count),
     }
@@ -108,7 +98,7 @@ fn allocate(table: &mut [u64], run: Run) -> Run {
     let done = space.allocate(table, type_of(draw), size_of(draw));
     let next = done.space;
     let answer = done.answer;
-    noted(run, next, draw, allocated(answer))
+    noted(run, next, draw, allocate_number(answer), address_of(answer))
 }
 
 // The first live piece from entry i on, of n.
@@ -149,7 +139,7 @@ fn release(table: &mut [u64], run: Run) -> Run {
     let done = space.release(table, address, size);
     let next = done.space;
     let answer = done.answer;
-    noted(run, next, draw, released(answer))
+    noted(run, next, draw, release_number(answer), 0)
 }
 
 // One allocation, if the table has fewer entries than that.
@@ -253,7 +243,7 @@ fn asked(text: &[u8]) -> Wish {
 
 // The words to lend for so many entries: a few more than they need, so that a full table is met now and then.
 fn words_for(entries: u64) -> usize
-    ensures { λ r. ⌜ r ≤ 3072 ⌝ }
+    ensures { λ r. ⌜ r ≤ 1024 * entryWords ⌝ }
 {
     if entries < 960 {
         return (entries + entries / 16) as usize * ENTRY_WORDS;
@@ -263,7 +253,7 @@ fn words_for(entries: u64) -> usize
 
 // The words of which a table is lent. The `ensures` gives the length, which lending a part of them needs.
 fn zero_words() -> [u64; MOST_WORDS]
-    ensures { λ r. ⌜ 3072 ≡ length r ⌝ }
+    ensures { λ r. ⌜ 1024 * entryWords ≡ length r ⌝ }
 {
     [0; MOST_WORDS]
 }

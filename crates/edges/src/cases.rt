@@ -6,6 +6,7 @@ use show::claim::Tally;
 use show::scene;
 use show::scene::Call;
 use show::scene::Scene;
+use show::scene::WORDS;
 use space::Space;
 
 // That a release, an extend or a shorten is done, and leaves this end.
@@ -19,7 +20,7 @@ pub fn placed(t: Tally, text: &[u8], k: u64, s: Scene, call: Call, at: u64, end:
 }
 
 // The scene with another end, another count of entries and other words.
-fn with_table(s: Scene, end: u64, count: u64, words: [u64; 96]) -> Scene {
+fn with_table(s: Scene, end: u64, count: u64, words: [u64; WORDS]) -> Scene {
     let given = s.space;
     Scene {
         space: Space {
@@ -43,7 +44,7 @@ pub fn answers_and_leaves(
     expected: Answer,
     end: u64,
     count: u64,
-    words: [u64; 96],
+    words: [u64; WORDS],
 ) -> Tally {
     let asked = scene::ask(s, call);
     let found = asked.answer;
@@ -63,17 +64,17 @@ pub fn leaves(
     call: Call,
     end: u64,
     count: u64,
-    words: [u64; 96],
+    words: [u64; WORDS],
 ) -> Tally {
     answers_and_leaves(t, text, k, s, call, Answer::Done, end, count, words)
 }
 
 // The words of a table of one entry.
-pub fn one(size: u64, kind: u64) -> [u64; 96] {
+pub fn one(size: u64, kind: u64) -> [u64; WORDS] {
     scene::with_entry(scene::blank(), 0, 0, size, kind)
 }
 
 // Of two, the second where the first one ends.
-pub fn two(size: u64, kind: u64, next_size: u64, next_kind: u64) -> [u64; 96] {
+pub fn two(size: u64, kind: u64, next_size: u64, next_kind: u64) -> [u64; WORDS] {
     scene::with_entry(one(size, kind), 1, size, next_size, next_kind)
 }

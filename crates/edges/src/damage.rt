@@ -2,11 +2,13 @@
 // Each call must then refuse 2, but for the damages that leave a sound table, which are known in advance.
 use crate::listing;
 use crate::scenes;
+use pieces::ENTRY_WORDS;
 use show::answer;
 use show::answer::Answer;
 use show::claim;
 use show::claim::Tally;
 use show::claim::say_verdict;
+use show::document::TABLE_WORDS;
 use show::scene;
 use show::scene::Call;
 use show::scene::Scene;
@@ -14,10 +16,13 @@ use show::text::say;
 use show::text::say_line;
 use show::text::say_nth;
 use show::text::say_number;
+use space::answers::NOT_LIVE;
+use space::answers::NOT_SOUND;
+use space::answers::UNKNOWN_CODE;
+use space::answers::ZERO_ASKED;
 
-const TABLE_WORDS: usize = 36;
-
-const ENTRIES_WORDS: usize = 24;
+// The words of the eight entries after step 5.
+const ENTRIES_WORDS: usize = 8 * ENTRY_WORDS;
 
 const OTHERS: usize = 13;
 
@@ -59,20 +64,34 @@ fn all_refuse(s: Scene, allocate: u64, release: u64, change: u64, list: u64) -> 
 }
 
 fn is_broken(s: Scene) -> bool {
-    all_refuse(s, 2, 2, 2, 2)
+    all_refuse(s, NOT_SOUND, NOT_SOUND, NOT_SOUND, NOT_SOUND)
 }
 
 fn is_sound(s: Scene) -> bool {
-    all_refuse(s, 3, 7, 4, 3)
+    all_refuse(s, UNKNOWN_CODE, NOT_LIVE, ZERO_ASKED, UNKNOWN_CODE)
+}
+
+// The kind of an entry; of one that a scene has no words for, none.
+fn kind_at(s: Scene, entry: usize) -> u64 {
+    let words = s.words;
+    if entry < scene::ENTRIES {
+        let said = pieces::words_at(&words, entry);
+        return said.kind;
+    }
+    0
 }
 
 // The damages that leave a sound table: a live piece of page 0 is free, beside another that is live; the free rest of a small page is live.
-fn known_sound(i: usize, value: u64) -> bool {
-    match i {
-        2 => value == 4,
-        5 => value == 4,
-        11 => value == 2,
-        23 => value == 1,
+// Each is of a kind.
+fn known_sound(entry: usize, old: u64, kind: u64) -> bool {
+    if old == kind {
+        return false;
+    }
+    match entry {
+        0 => kind == 4,
+        1 => kind == 4,
+        3 => kind == 2,
+        7 => kind == 1,
         _ => false,
     }
 }
@@ -128,46 +147,25 @@ fn with_word(s: Scene, i: usize, value: u64) -> Scene {
     }
 }
 
-fn more_refused(n: Counts) -> Counts {
-    Counts {
-        refused: claim::one_more(n.refused),
-        sound: n.sound,
-        wrong: n.wrong,
-    }
-}
-
-fn more_sound(n: Counts) -> Counts {
-    Counts {
-        refused: n.refused,
-        sound: claim::one_more(n.sound),
-        wrong: n.wrong,
-    }
-}
-
-fn more_wrong(n: Counts) -> Counts {
-    Counts {
-        refused: n.refused,
-        sound: n.sound,
-        wrong: claim::one_more(n.wrong),
-    }
-}
-
 // One damage. The word's own value is none.
 fn try_value(n: Counts, s: Scene, i: usize, value: u64) -> Counts {
     if value == word_at(s, i) {
         return n;
     }
     let damaged = with_word(s, i, value);
-    if known_sound(i, value) {
+    let entry = i / ENTRY_WORDS;
+    let mut next = n;
+    if known_sound(entry, kind_at(s, entry), kind_at(damaged, entry)) {
         if is_sound(damaged) {
-            return more_sound(n);
+            next.sound = claim::one_more(n.sound);
+            return next;
         }
-        return more_wrong(n);
+    } else if is_broken(damaged) {
+        next.refused = claim::one_more(n.refused);
+        return next;
     }
-    if is_broken(damaged) {
-        return more_refused(n);
-    }
-    more_wrong(n)
+    next.wrong = claim::one_more(n.wrong);
+    next
 }
 
 fn try_values(s: Scene, i: usize) -> Counts {
@@ -194,9 +192,9 @@ fn say_place(i: usize) {
     }
     say_nth(
         b", the address of entry \n, the size of entry \n, the kind of entry ",
-        (i % 3) as u64,
+        (i % ENTRY_WORDS) as u64,
     );
-    say_number((i / 3) as u64);
+    say_number((i / ENTRY_WORDS) as u64);
     say(b": ");
 }
 
@@ -303,7 +301,7 @@ fn ends_and_counts(t: Tally) -> Tally {
     let t = breaks(t, c, 6, 512, 5120, 2560, 13);
     let t = breaks(t, c, 7, 512, 5120, 2560, LARGEST);
     let t = breaks(t, c, 8, 512, 5120, 0, 0);
-    judge(t, c, 9, is_broken(scenes::opened(511, 5120, 36)))
+    judge(t, c, 9, is_broken(scenes::opened(511, 5120, TABLE_WORDS)))
 }
 
 pub fn all(t: Tally) -> Tally {

@@ -9,13 +9,14 @@ use show::claim::Tally;
 use show::document;
 use show::scene;
 use show::scene::Call;
+use show::scene::WORDS;
 use space::place::METADATA;
 use space::place::RAW;
 
 const LARGEST: u64 = 18446744073709551615;
 
 // Document 01's table after step 6: in place of the large piece, its two pages are free.
-fn after_step_six() -> [u64; 96] {
+fn after_step_six() -> [u64; WORDS] {
     let w = document::after_step_twelve();
     let w = scene::with_entry(w, 4, 1024, 1024, 6);
     let w = scene::with_entry(w, 5, 2048, 10, 1);

@@ -5,12 +5,15 @@ use show::answer;
 use show::answer::Answer;
 use show::claim;
 use show::claim::Tally;
+use show::document::TABLE_WORDS;
 use show::scene;
 use show::scene::Call;
 use show::scene::Scene;
 use show::text::say;
 use show::text::say_number;
 use show::words;
+use space::answers::count_of;
+use space::answers::list_number;
 use space::place::METADATA;
 use space::place::RAW;
 
@@ -21,7 +24,7 @@ const LARGEST: u64 = 18446744073709551615;
 struct Lists {
     answer: Answer,
     scene: Scene,
-    out: [u64; 6],
+    out: [u64; LIST_WORDS],
 }
 
 fn part(len: usize) -> usize
@@ -37,14 +40,14 @@ fn part(len: usize) -> usize
 fn list(s: Scene, manager: u64, len: usize) -> Lists {
     let table = s.words;
     let lent = scene::part(s.len);
-    let mut out = [7u64; 6];
+    let mut out = [7u64; LIST_WORDS];
     let most = part(len);
     let state = s.space;
     let done = state.list(&table[..lent], manager, &mut out[..most]);
     let said = done.answer;
     let space = done.space;
     Lists {
-        answer: answer::of_list(said),
+        answer: answer::of_number(list_number(said), Answer::Sections(count_of(said))),
         scene: Scene {
             space,
             words: table,
@@ -55,7 +58,7 @@ fn list(s: Scene, manager: u64, len: usize) -> Lists {
 }
 
 // Whether the answer is this one, the list slice has these words, and the table and the state are as they came.
-fn holds(s: Scene, found: Lists, expected: Answer, words: [u64; 6]) -> bool {
+fn holds(s: Scene, found: Lists, expected: Answer, words: [u64; LIST_WORDS]) -> bool {
     let said = found.answer;
     let out = found.out;
     let left = found.scene;
@@ -80,7 +83,7 @@ fn say_pair(address: u64, size: u64) {
     say_number(size);
 }
 
-fn say_answer_and_out(a: Answer, out: [u64; 6]) {
+fn say_answer_and_out(a: Answer, out: [u64; LIST_WORDS]) {
     answer::say_answer(a);
     say(b", with the words");
     say_pair(out[0], out[1]);
@@ -95,7 +98,7 @@ fn judge(
     s: Scene,
     found: Lists,
     expected: Answer,
-    words: [u64; 6],
+    words: [u64; LIST_WORDS],
 ) -> Tally {
     let held = holds(s, found, expected, words);
     claim::say_claim(held, text, k);
@@ -202,7 +205,7 @@ fn lengths(t: Tally) -> Tally {
 
 pub fn all(t: Tally) -> Tally {
     let c: &[u8] = b"listing the state of a refused opening is refused 2";
-    let closed = scenes::opened(511, 5120, 36);
+    let closed = scenes::opened(511, 5120, TABLE_WORDS);
     let t = refuses(t, c, 0, closed, RAW, 6, 2);
     lengths(managers(t))
 }

@@ -7,9 +7,11 @@ use crate::scenes;
 use show::answer::Answer;
 use show::case::refuses;
 use show::claim::Tally;
+use show::document::TABLE_WORDS;
 use show::scene;
 use show::scene::Call;
 use show::scene::Scene;
+use show::scene::WORDS;
 use space::place::METADATA;
 use space::place::RAW;
 
@@ -24,7 +26,7 @@ fn given(
     size: u64,
     end: u64,
     count: u64,
-    words: [u64; 96],
+    words: [u64; WORDS],
 ) -> Tally {
     answers_and_leaves(
         t,
@@ -47,7 +49,7 @@ fn small_and_large(t: Tally) -> Tally {
     let s = scenes::empty();
     let t = given(t, c, 0, s, 511, 512, 2, two(511, 2, 1, 5));
     let t = given(t, c, 1, s, 512, 512, 1, one(512, 3));
-    let s = scenes::opened(1000, 5000, 36);
+    let s = scenes::opened(1000, 5000, TABLE_WORDS);
     let t = given(t, c, 2, s, 999, 1000, 2, two(999, 2, 1, 5));
     given(t, c, 3, s, 1000, 1000, 1, one(1000, 3))
 }
@@ -99,7 +101,7 @@ fn limit_within_a_page(t: Tally) -> Tally {
                      M = 5000 allows no more: size 4609 is refused 5\n\
                      M = 5000 at E = 4608 refuses one small byte with 5\n\
                      M = 5000 at E = 4608 refuses a page with 5";
-    let s = scenes::opened(512, 5000, 36);
+    let s = scenes::opened(512, 5000, TABLE_WORDS);
     let t = placed(t, c, 0, s, Call::Allocate(RAW, 4608), 0, 4608);
     let t = refuses(t, c, 1, s, Call::Allocate(RAW, 4609), 5);
     let s = scene::after(s, Call::Allocate(RAW, 4608));
@@ -117,7 +119,10 @@ fn three_sections() -> Scene {
 // A free large entry that starts within a page, behind a piece of `size` bytes, and holds two whole pages, the first at `border`. There a
 // piece of `border` bytes was released, and behind it a page is live.
 fn misaligned(page: u64, limit: u64, size: u64, border: u64) -> Scene {
-    let s = scene::after(scenes::opened(page, limit, 36), Call::Allocate(RAW, size));
+    let s = scene::after(
+        scenes::opened(page, limit, TABLE_WORDS),
+        Call::Allocate(RAW, size),
+    );
     let s = scene::after(s, Call::Allocate(RAW, border));
     let s = scene::after(s, Call::Allocate(RAW, page));
     scene::after(s, Call::Release(border, border))
@@ -156,7 +161,7 @@ fn beside_512(t: Tally) -> Tally {
                      P = 1000: raw 1000, large, is at 2000";
     let s = scenes::five();
     let t = placed(t, c, 0, s, Call::Allocate(RAW, 1000), 2560, 3584);
-    let s = scenes::opened(1000, 5000, 36);
+    let s = scenes::opened(1000, 5000, TABLE_WORDS);
     let t = placed(t, c, 1, s, Call::Allocate(METADATA, 96), 0, 1000);
     let s = scene::after(s, Call::Allocate(METADATA, 96));
     let t = placed(t, c, 2, s, Call::Allocate(RAW, 100), 1000, 2000);
@@ -174,7 +179,7 @@ fn borders_of_1000(t: Tally) -> Tally {
     let c: &[u8] = b"P = 1000, M = 5000 allows E = 5000\n\
                      P = 1000, M = 5000 allows no more\n\
                      P = 1000: behind a large piece of 1500 a page is at 2000";
-    let s = scenes::opened(1000, 5000, 36);
+    let s = scenes::opened(1000, 5000, TABLE_WORDS);
     let t = placed(t, c, 0, s, Call::Allocate(RAW, 5000), 0, 5000);
     let t = refuses(t, c, 1, s, Call::Allocate(RAW, 5001), 5);
     let s = scene::after(s, Call::Allocate(RAW, 1500));

@@ -1,11 +1,16 @@
 // The tables that the cases start from.
+use pieces::ENTRY_WORDS;
 use show::document;
+use show::document::TABLE_WORDS;
 use show::scene;
 use show::scene::Call;
 use show::scene::Scene;
 use space::Space;
 use space::place::METADATA;
 use space::place::RAW;
+
+// C = 4, the least.
+const LEAST_WORDS: usize = 4 * ENTRY_WORDS;
 
 pub fn opened(page: u64, limit: u64, words: usize) -> Scene {
     let asked = scene::open(page, limit, words);
@@ -15,7 +20,7 @@ pub fn opened(page: u64, limit: u64, words: usize) -> Scene {
 
 // Document 01's run before its first step.
 pub fn empty() -> Scene {
-    opened(512, 5120, 36)
+    opened(512, 5120, TABLE_WORDS)
 }
 
 // After its first step.
@@ -35,7 +40,7 @@ pub fn with_state(page: u64, limit: u64, end: u64, count: u64) -> Scene {
     Scene {
         space,
         words,
-        len: 36,
+        len: TABLE_WORDS,
     }
 }
 
@@ -46,14 +51,14 @@ pub fn five() -> Scene {
 
 // C = 4, and four entries: a live and a free one of raw data, a live and a free one of metadata.
 pub fn full() -> Scene {
-    let s = opened(512, 5120, 12);
+    let s = opened(512, 5120, LEAST_WORDS);
     let s = scene::after(s, Call::Allocate(RAW, 100));
     scene::after(s, Call::Allocate(METADATA, 100))
 }
 
 // C = 4, and four entries, the last two of them large and live.
 pub fn full_of_large() -> Scene {
-    let s = opened(512, 5120, 12);
+    let s = opened(512, 5120, LEAST_WORDS);
     let s = scene::after(s, Call::Allocate(RAW, 100));
     let s = scene::after(s, Call::Allocate(RAW, 512));
     scene::after(s, Call::Allocate(RAW, 512))

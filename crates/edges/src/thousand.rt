@@ -5,15 +5,20 @@ use crate::cases::two;
 use crate::scenes;
 use show::case::refuses;
 use show::claim::Tally;
+use show::document::TABLE_WORDS;
 use show::scene;
 use show::scene::Call;
 use show::scene::Scene;
+use show::scene::WORDS;
 use space::place::METADATA;
 use space::place::RAW;
 
 // The file with one raw piece of this size.
 fn with_raw(size: u64) -> Scene {
-    scene::after(scenes::opened(1000, 5000, 36), Call::Allocate(RAW, size))
+    scene::after(
+        scenes::opened(1000, 5000, TABLE_WORDS),
+        Call::Allocate(RAW, size),
+    )
 }
 
 // (0, 1500) live large, (1500, 500) free large, (2000, 100) live metadata, (2100, 900) free metadata.
@@ -23,13 +28,13 @@ fn large_and_small() -> Scene {
 
 // With page 2 as the entries i and j: a metadata piece of this size, and behind it, at this address, the free rest.
 fn with_page(
-    words: [u64; 96],
+    words: [u64; WORDS],
     i: usize,
     size: u64,
     j: usize,
     address: u64,
     rest: u64,
-) -> [u64; 96] {
+) -> [u64; WORDS] {
     let w = scene::with_entry(words, i, 2000, size, 1);
     scene::with_entry(w, j, address, rest, 4)
 }

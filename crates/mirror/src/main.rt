@@ -17,8 +17,6 @@ use show::words;
 use space::place::METADATA;
 use space::place::RAW;
 
-const PAIR_WORDS: usize = 2;
-
 // One file, and the claims so far.
 struct Job {
     scene: Scene,
@@ -110,31 +108,17 @@ fn requests(both: Both) -> Both {
     ask_both(both, Call::Allocate(METADATA, 5), Answer::At(3272))
 }
 
-// What is purged: address and size of each piece.
-fn purge_list() -> [u64; 12] {
-    [
-        8192,
-        10000,
-        4096,
-        300,
-        24576,
-        1500,
-        3072,
-        200,
-        28672,
-        6000,
-        4396,
-        3796,
-    ]
-}
-
-// The release of the list's piece k. Of a piece that the list has not, one that no space takes.
-fn nth(list: &[u64], k: usize) -> Call {
-    if k < list.len() / PAIR_WORDS {
-        let at = k * PAIR_WORDS;
-        return Call::Release(list[at], list[at + 1]);
+// The release of piece k of the list that both purge by. Of a piece that the list has not, one that no space takes.
+fn listed(k: usize) -> Call {
+    match k {
+        0 => Call::Release(8192, 10000),
+        1 => Call::Release(4096, 300),
+        2 => Call::Release(24576, 1500),
+        3 => Call::Release(3072, 200),
+        4 => Call::Release(28672, 6000),
+        5 => Call::Release(4396, 3796),
+        _ => Call::Release(0, 0),
     }
-    Call::Release(0, 0)
 }
 
 // One release, with the end that it leaves. Each must be done.
@@ -158,19 +142,18 @@ fn release(job: Job, call: Call) -> Job {
 }
 
 // The list's pieces are given back in an order.
-fn purge(before: Job, list: &[u64], order: &[usize]) -> Job {
+fn purge(before: Job, order: &[usize]) -> Job {
     let mut job = before;
     let mut i: usize = 0;
     while i < order.len() {
-        job = release(job, nth(list, order[i]));
+        job = release(job, listed(order[i]));
         i = i + 1;
     }
     job
 }
 
 fn purge_both(both: Both) -> Both {
-    let list = purge_list();
-    let listed: [usize; 6] = [0, 1, 2, 3, 4, 5];
+    let in_order: [usize; 6] = [0, 1, 2, 3, 4, 5];
     let mixed: [usize; 6] = [5, 2, 0, 4, 1, 3];
     let crane = both.crane;
     let server = both.server;
@@ -181,8 +164,7 @@ fn purge_both(both: Both) -> Both {
             scene: crane,
             tally,
         },
-        &list,
-        &listed,
+        &in_order,
     );
     let tally = one.tally;
     say_line(b"the server purges by the same list, in another order:");
@@ -191,7 +173,6 @@ fn purge_both(both: Both) -> Both {
             scene: server,
             tally,
         },
-        &list,
         &mixed,
     );
     let crane = one.scene;

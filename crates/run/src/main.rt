@@ -6,9 +6,11 @@ use show::case;
 use show::claim::Tally;
 use show::claim::say_verdict;
 use show::document;
+use show::document::TABLE_WORDS;
 use show::scene;
 use show::scene::Call;
 use show::scene::Scene;
+use show::scene::WORDS;
 use show::text::say;
 use show::text::say_line;
 use show::text::say_number;
@@ -18,8 +20,6 @@ use space::place::RAW;
 const PAGE: u64 = 512;
 
 const LIMIT: u64 = 5120;
-
-const TABLE_WORDS: usize = 36;
 
 // How far the run has come.
 struct Run {
@@ -92,7 +92,7 @@ fn refuses(run: Run, claim: &[u8], call: Call, number: u64) -> Run {
 }
 
 // Whether all words are these.
-fn holds(run: Run, claim: &[u8], expected: [u64; 96]) -> Run {
+fn holds(run: Run, claim: &[u8], expected: [u64; WORDS]) -> Run {
     let scene = run.scene;
     let found = scene.words;
     let old = run.tally;

@@ -1,35 +1,17 @@
--- One answer for all calls, in document 01's numbers.
+-- One answer for all calls.
 --
---   numberIn r      the refusal number; success is 0
---   addressIn r     the address answer of an allocation
---   countIn r       the count answer of a listing
+--   ofNumber n a    what a call answers by document 01's number n: a where it is accepted, else the refusal
 --   sameb r t       whether two answers are of one case, with one number
 --
 -- Assumes nothing.
-use mathlib.Core.Bool.{Bool, true, false}
+use mathlib.Core.Bool.{Bool, true, false, cond}
 use Prim.Native.Nat.{ℕ}
 use lib.Dec.{eqb}
-use Rattle.space.specs.Answers.{noAddress}
 use Rattle.show.specs.declared.answer.Answer.{Answer}
 use Rattle.show.specs.declared.answer.Answer.the-variants.{At, Sections, Done, Refused}
 
-abbrev pub numberIn : Answer → ℕ
-numberIn (At a) = 0
-numberIn (Sections k) = 0
-numberIn Done = 0
-numberIn (Refused k) = k
-
-abbrev pub addressIn : Answer → ℕ
-addressIn (At a) = a
-addressIn (Sections k) = noAddress
-addressIn Done = noAddress
-addressIn (Refused k) = noAddress
-
-abbrev pub countIn : Answer → ℕ
-countIn (At a) = 0
-countIn (Sections k) = k
-countIn Done = 0
-countIn (Refused k) = 0
+abbrev pub ofNumber : ℕ → Answer → Answer
+ofNumber n a = cond (eqb n 0) a (Refused n)
 
 abbrev pub sameb : Answer → Answer → Bool
 sameb (At a) (At b) = eqb a b

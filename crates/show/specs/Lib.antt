@@ -1,2 +1,3 @@
 -- What the contracts of the test programs' library cite.
 pub mod Answers
+pub mod Scenes

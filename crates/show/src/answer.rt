@@ -1,16 +1,9 @@
 // What any call answers, in document 01's numbers.
 ghost use mathlib.Core.Path.{_≡_};
-ghost use Rattle.space.specs.Answers.{openNumber, allocateNumber, addressOf, releaseNumber, extendNumber, shortenNumber, listNumber, countOf};
-ghost use Rattle.show.specs.Answers.{numberIn, addressIn, countIn, sameb};
+ghost use Rattle.show.specs.Answers.{ofNumber, sameb};
 use crate::text::say;
-use crate::text::say_nth;
 use crate::text::say_number;
-use space::answers::AllocateAnswer;
-use space::answers::ExtendAnswer;
-use space::answers::ListAnswer;
-use space::answers::OpenAnswer;
-use space::answers::ReleaseAnswer;
-use space::answers::ShortenAnswer;
+use space::answers::DONE;
 
 pub enum Answer {
     At(u64),
@@ -19,75 +12,14 @@ pub enum Answer {
     Refused(u64),
 }
 
-pub fn of_open(answer: OpenAnswer) -> Answer
-    ensures { λ r. ⌜ numberIn r ≡ openNumber answer ⌝ }
+// What a call answers by its number: this where it is accepted, else the refusal.
+pub fn of_number(number: u64, accepted: Answer) -> Answer
+    ensures { λ r. ⌜ r ≡ ofNumber number accepted ⌝ }
 {
-    match answer {
-        OpenAnswer::Done => Answer::Done,
-        OpenAnswer::OutOfRange => Answer::Refused(1),
+    if number == DONE {
+        return accepted;
     }
-}
-
-pub fn of_allocate(answer: AllocateAnswer) -> Answer
-    ensures { λ r. ⌜ (numberIn r ≡ allocateNumber answer) × (addressIn r ≡ addressOf answer) ⌝ }
-{
-    match answer {
-        AllocateAnswer::At(a) => Answer::At(a),
-        AllocateAnswer::NotSound => Answer::Refused(2),
-        AllocateAnswer::UnknownType => Answer::Refused(3),
-        AllocateAnswer::NoBytes => Answer::Refused(4),
-        AllocateAnswer::BeyondLimit => Answer::Refused(5),
-        AllocateAnswer::TableFull => Answer::Refused(6),
-    }
-}
-
-pub fn of_release(answer: ReleaseAnswer) -> Answer
-    ensures { λ r. ⌜ numberIn r ≡ releaseNumber answer ⌝ }
-{
-    match answer {
-        ReleaseAnswer::Done => Answer::Done,
-        ReleaseAnswer::NotSound => Answer::Refused(2),
-        ReleaseAnswer::NotLive => Answer::Refused(7),
-        ReleaseAnswer::TableFull => Answer::Refused(6),
-    }
-}
-
-pub fn of_extend(answer: ExtendAnswer) -> Answer
-    ensures { λ r. ⌜ numberIn r ≡ extendNumber answer ⌝ }
-{
-    match answer {
-        ExtendAnswer::Done => Answer::Done,
-        ExtendAnswer::NotSound => Answer::Refused(2),
-        ExtendAnswer::NoBytes => Answer::Refused(4),
-        ExtendAnswer::NotLive => Answer::Refused(7),
-        ExtendAnswer::NoRoomBehind => Answer::Refused(8),
-        ExtendAnswer::BeyondLimit => Answer::Refused(5),
-        ExtendAnswer::TableFull => Answer::Refused(6),
-    }
-}
-
-pub fn of_shorten(answer: ShortenAnswer) -> Answer
-    ensures { λ r. ⌜ numberIn r ≡ shortenNumber answer ⌝ }
-{
-    match answer {
-        ShortenAnswer::Done => Answer::Done,
-        ShortenAnswer::NotSound => Answer::Refused(2),
-        ShortenAnswer::NoBytes => Answer::Refused(4),
-        ShortenAnswer::NotLive => Answer::Refused(7),
-        ShortenAnswer::TooLittleLeft => Answer::Refused(9),
-        ShortenAnswer::TableFull => Answer::Refused(6),
-    }
-}
-
-pub fn of_list(answer: ListAnswer) -> Answer
-    ensures { λ r. ⌜ (numberIn r ≡ listNumber answer) × (countIn r ≡ countOf answer) ⌝ }
-{
-    match answer {
-        ListAnswer::Sections(k) => Answer::Sections(k),
-        ListAnswer::NotSound => Answer::Refused(2),
-        ListAnswer::UnknownManager => Answer::Refused(3),
-        ListAnswer::SliceTooShort => Answer::Refused(10),
-    }
+    Answer::Refused(number)
 }
 
 // Whether a is this one, which names its case and its number.
@@ -146,23 +78,21 @@ pub fn same_answer(a: Answer, other: Answer) -> bool
     }
 }
 
-// `at` or `refused`, and a number.
-fn say_with(k: u64, n: u64) {
-    say_nth(b"at \nrefused ", k);
-    say_number(n);
-}
-
-fn say_sections(n: u64) {
-    say_number(n);
-    say(b" sections");
-}
-
 pub fn say_answer(a: Answer) {
     match a {
-        Answer::At(n) => say_with(0, n),
-        Answer::Sections(n) => say_sections(n),
+        Answer::At(n) => {
+            say(b"at ");
+            say_number(n);
+        }
+        Answer::Sections(n) => {
+            say_number(n);
+            say(b" sections");
+        }
         Answer::Done => say(b"done"),
-        Answer::Refused(n) => say_with(1, n),
+        Answer::Refused(n) => {
+            say(b"refused ");
+            say_number(n);
+        }
     }
 }
 

@@ -4,6 +4,7 @@ ghost use Prim.Native.Nat.{_≤_};
 ghost use mathlib.Core.Path.{_≡_};
 ghost use mathlib.Core.Bool.{true};
 ghost use lib.ListN.{length};
+ghost use Rattle.show.specs.Scenes.{sceneWords};
 use crate::answer;
 use crate::answer::Answer;
 use crate::entry;
@@ -12,13 +13,22 @@ use crate::text::say_nth;
 use crate::text::say_number;
 use crate::words;
 use pieces::ENTRY_WORDS;
+use pieces::Piece;
 use space::Space;
+use space::answers::address_of;
+use space::answers::allocate_number;
+use space::answers::extend_number;
+use space::answers::open_number;
+use space::answers::release_number;
+use space::answers::shorten_number;
 
-pub const WORDS: usize = 96;
+pub const ENTRIES: usize = 32;
+
+pub const WORDS: usize = ENTRIES * ENTRY_WORDS;
 
 pub struct Scene {
     pub space: Space,
-    pub words: [u64; 96],
+    pub words: [u64; WORDS],
     pub len: usize,
 }
 
@@ -40,20 +50,32 @@ pub struct Asked {
     pub answer: Answer,
 }
 
-pub fn blank() -> [u64; 96]
-    ensures { λ r. ⌜ 96 ≡ length r ⌝ }
+pub fn blank() -> [u64; WORDS]
+    ensures { λ r. ⌜ sceneWords ≡ length r ⌝ }
 {
-    [0u64; 96]
+    [0u64; WORDS]
 }
 
-// The words with entry i in them; as they are, if there is no entry i.
-pub fn with_entry(words: [u64; 96], i: usize, address: u64, size: u64, kind: u64) -> [u64; 96] {
+// The words with entry i in them, of a kind 1 to 6; as they are, if there is no entry i.
+pub fn with_entry(
+    words: [u64; WORDS],
+    i: usize,
+    address: u64,
+    size: u64,
+    kind: u64,
+) -> [u64; WORDS] {
     let mut new = words;
-    if i < WORDS / ENTRY_WORDS {
-        let at = i * ENTRY_WORDS;
-        new[at] = address;
-        new[at + 1] = size;
-        new[at + 2] = kind;
+    if i < ENTRIES {
+        let status = pieces::status_of(kind);
+        pieces::put(
+            &mut new,
+            i,
+            Piece {
+                address,
+                size,
+                status,
+            },
+        );
     }
     new
 }
@@ -71,11 +93,11 @@ pub fn open(page: u64, limit: u64, len: usize) -> Asked {
             words,
             len,
         },
-        answer: answer::of_open(said),
+        answer: answer::of_number(open_number(said), Answer::Done),
     }
 }
 
-// The default opening over all 96 words.
+// The default opening over all words.
 pub fn open_default() -> Asked {
     let mut words = blank();
     let done = Space::open_default(&mut words);
@@ -87,62 +109,55 @@ pub fn open_default() -> Asked {
             words,
             len: WORDS,
         },
-        answer: answer::of_open(said),
-    }
-}
-
-fn allocate(space: Space, table: &mut [u64], code: u64, size: u64) -> Told {
-    let done = space.allocate(table, code, size);
-    let now = done.space;
-    let said = done.answer;
-    Told {
-        space: now,
-        answer: answer::of_allocate(said),
-    }
-}
-
-fn release(space: Space, table: &mut [u64], address: u64, size: u64) -> Told {
-    let done = space.release(table, address, size);
-    let now = done.space;
-    let said = done.answer;
-    Told {
-        space: now,
-        answer: answer::of_release(said),
-    }
-}
-
-fn extend(space: Space, table: &mut [u64], address: u64, size: u64, by: u64) -> Told {
-    let done = space.extend(table, address, size, by);
-    let now = done.space;
-    let said = done.answer;
-    Told {
-        space: now,
-        answer: answer::of_extend(said),
-    }
-}
-
-fn shorten(space: Space, table: &mut [u64], address: u64, size: u64, by: u64) -> Told {
-    let done = space.shorten(table, address, size, by);
-    let now = done.space;
-    let said = done.answer;
-    Told {
-        space: now,
-        answer: answer::of_shorten(said),
+        answer: answer::of_number(open_number(said), Answer::Done),
     }
 }
 
 fn tell(space: Space, table: &mut [u64], call: Call) -> Told {
     match call {
-        Call::Allocate(code, size) => allocate(space, table, code, size),
-        Call::Release(address, size) => release(space, table, address, size),
-        Call::Extend(address, size, by) => extend(space, table, address, size, by),
-        Call::Shorten(address, size, by) => shorten(space, table, address, size, by),
+        Call::Allocate(code, size) => {
+            let done = space.allocate(table, code, size);
+            let now = done.space;
+            let said = done.answer;
+            let placed = Answer::At(address_of(said));
+            Told {
+                space: now,
+                answer: answer::of_number(allocate_number(said), placed),
+            }
+        }
+        Call::Release(address, size) => {
+            let done = space.release(table, address, size);
+            let now = done.space;
+            let said = done.answer;
+            Told {
+                space: now,
+                answer: answer::of_number(release_number(said), Answer::Done),
+            }
+        }
+        Call::Extend(address, size, by) => {
+            let done = space.extend(table, address, size, by);
+            let now = done.space;
+            let said = done.answer;
+            Told {
+                space: now,
+                answer: answer::of_number(extend_number(said), Answer::Done),
+            }
+        }
+        Call::Shorten(address, size, by) => {
+            let done = space.shorten(table, address, size, by);
+            let now = done.space;
+            let said = done.answer;
+            Told {
+                space: now,
+                answer: answer::of_number(shorten_number(said), Answer::Done),
+            }
+        }
     }
 }
 
 // So many words, or all there are.
 pub fn part(len: usize) -> usize
-    ensures { λ r. ⌜ r ≤ 96 ⌝ }
+    ensures { λ r. ⌜ r ≤ sceneWords ⌝ }
 {
     if WORDS < len {
         return WORDS;

@@ -32,7 +32,10 @@ array-borrow-prefix-table : tie.Need-array-borrow-prefix-table
 array-borrow-prefix-table c = search needs
 
 slice-aggregate-worked : tie.Need-slice-aggregate-worked
-slice-aggregate-worked c = sym (length-take-le (c .before .words-for .result) _ (omega (arith, c .before .words-for .ensures, c .before .before .zero-words .ensures)))
+slice-aggregate-worked c =
+    let lent = c .before .words-for in
+    let all = c .before .before .zero-words in
+    sym (length-take-le (lent .result) _ (omega (arith, lent .ensures, all .ensures)))
 
 worked-requires : tie.Need-worked-requires
 worked-requires c κs = search needs

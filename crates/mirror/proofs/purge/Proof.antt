@@ -7,22 +7,22 @@ use Rattle.mirror.proofs.purge.Statement.{statement}
 use Rattle.mirror.proofs.purge.Tie as tie
 
 abbrev Inv-loop : tie.InvT-loop
-Inv-loop list order job₀ i₀ job i = i ≤ length order
+Inv-loop order job₀ i₀ job i = i ≤ length order
 
 abbrev μ-loop : tie.MeasureT-loop
-μ-loop list order job₀ i₀ job i = length order - i
+μ-loop order job₀ i₀ job i = length order - i
 
 loop-holds : tie.Need-loop-holds Inv-loop μ-loop
 loop-holds c = search needs
 
-mul-nth : tie.Need-mul-nth Inv-loop μ-loop
-mul-nth c = search needs
+mul-listed : tie.Need-mul-listed Inv-loop μ-loop
+mul-listed c = search needs
 
-shared-slice-read-nth : tie.Need-shared-slice-read-nth Inv-loop μ-loop
-shared-slice-read-nth c = search needs
+shared-slice-read-listed : tie.Need-shared-slice-read-listed Inv-loop μ-loop
+shared-slice-read-listed c = search needs
 
-nth-requires : tie.Need-nth-requires Inv-loop μ-loop
-nth-requires c κs = search needs
+listed-requires : tie.Need-listed-requires Inv-loop μ-loop
+listed-requires c κs = search needs
 
 release-requires : tie.Need-release-requires Inv-loop μ-loop
 release-requires c κs = search needs
@@ -46,9 +46,9 @@ purge-spec =
     Inv-loop
     μ-loop
     loop-holds
-    mul-nth
-    shared-slice-read-nth
-    nth-requires
+    mul-listed
+    shared-slice-read-listed
+    listed-requires
     release-requires
     add-i
     loop-less

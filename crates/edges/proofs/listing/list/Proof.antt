@@ -5,6 +5,7 @@ use native.Mathlib.Omega.{arith}
 use lib.ListN.{length}
 use lib.Seq.{length-take-le}
 use borrow.Author.Needs.{needs}
+use Rattle.show.specs.Scenes.{sceneWords}
 use Rattle.edges.proofs.listing.list.Statement.{statement}
 use Rattle.edges.proofs.listing.list.Tie as tie
 
@@ -15,10 +16,14 @@ part-requires-2 : tie.Need-part-requires-2
 part-requires-2 c κs = search needs
 
 array-share-prefix-table : tie.Need-array-share-prefix-table
-array-share-prefix-table c = let n : length (c .before .before .before .before .args .s .words) ≡ 96 = search needs in omega (arith, n, c .before .before .part .ensures)
+array-share-prefix-table c =
+    let n : length (c .before .before .before .before .args .s .words) ≡ sceneWords = search needs in
+    omega (arith, n, c .before .before .part .ensures)
 
 slice-aggregate-list : tie.Need-slice-aggregate-list
-slice-aggregate-list c = let n : length (c .before .before .before .before .before .args .s .words) ≡ 96 = search needs in sym (length-take-le _ _ (omega (arith, n, c .before .before .before .part .ensures)))
+slice-aggregate-list c =
+    let n : length (c .before .before .before .before .before .args .s .words) ≡ sceneWords = search needs in
+    sym (length-take-le _ _ (omega (arith, n, c .before .before .before .part .ensures)))
 
 array-borrow-prefix-out : tie.Need-array-borrow-prefix-out
 array-borrow-prefix-out c = search needs
@@ -29,8 +34,14 @@ slice-aggregate-list-2 c = sym (length-take-le _ _ (c .before .before .before .p
 list-requires : tie.Need-list-requires
 list-requires c κs = search needs
 
-of-list-requires : tie.Need-of-list-requires
-of-list-requires c κs = search needs
+list-number-requires : tie.Need-list-number-requires
+list-number-requires c κs = search needs
+
+count-of-requires : tie.Need-count-of-requires
+count-of-requires c κs = search needs
+
+of-number-requires : tie.Need-of-number-requires
+of-number-requires c κs = search needs
 
 returns : tie.Need-returns
 returns c = search needs
@@ -46,5 +57,7 @@ list-spec =
     array-borrow-prefix-out
     slice-aggregate-list-2
     list-requires
-    of-list-requires
+    list-number-requires
+    count-of-requires
+    of-number-requires
     returns)

@@ -1,10 +1,11 @@
--- The lent part is within the 96 words, by what `part` ensures.
+-- The lent part is within the words of a scene, by what `part` ensures.
 -- Assumes nothing.
 use mathlib.Core.Path.{_≡_, sym}
 use native.Mathlib.Omega.{arith}
 use lib.ListN.{length}
 use lib.Seq.{length-take-le}
 use borrow.Author.Needs.{needs}
+use Rattle.show.specs.Scenes.{sceneWords}
 use Rattle.show.proofs.scene.ask.Statement.{statement}
 use Rattle.show.proofs.scene.ask.Tie as tie
 
@@ -12,10 +13,14 @@ part-requires : tie.Need-part-requires
 part-requires c κs = search needs
 
 array-borrow-prefix-words : tie.Need-array-borrow-prefix-words
-array-borrow-prefix-words c = let n : length (c .before .before .before .args .scene .words) ≡ 96 = search needs in omega (arith, n, c .before .part .ensures)
+array-borrow-prefix-words c =
+    let n : length (c .before .before .before .args .scene .words) ≡ sceneWords = search needs in
+    omega (arith, n, c .before .part .ensures)
 
 slice-aggregate-tell : tie.Need-slice-aggregate-tell
-slice-aggregate-tell c = let n : length (c .before .before .before .before .args .scene .words) ≡ 96 = search needs in sym (length-take-le _ _ (omega (arith, n, c .before .before .part .ensures)))
+slice-aggregate-tell c =
+    let n : length (c .before .before .before .before .args .scene .words) ≡ sceneWords = search needs in
+    sym (length-take-le _ _ (omega (arith, n, c .before .before .part .ensures)))
 
 tell-requires : tie.Need-tell-requires
 tell-requires c κs = search needs

@@ -1,10 +1,11 @@
--- The lent part is within the 96 words, by what `part` ensures.
+-- The lent part is within the words of a scene, by what `part` ensures.
 -- Assumes nothing.
 use mathlib.Core.Path.{_≡_, sym}
 use native.Mathlib.Omega.{arith}
 use lib.ListN.{length}
 use lib.Seq.{length-take-le}
 use borrow.Author.Needs.{needs}
+use Rattle.show.specs.Scenes.{sceneWords}
 use Rattle.show.proofs.scene.open.Statement.{statement}
 use Rattle.show.proofs.scene.open.Tie as tie
 
@@ -18,13 +19,18 @@ array-borrow-prefix-words : tie.Need-array-borrow-prefix-words
 array-borrow-prefix-words c = search needs
 
 slice-aggregate-open : tie.Need-slice-aggregate-open
-slice-aggregate-open c = let n : length (c .before .before .blank .result) ≡ 96 = search needs in sym (length-take-le _ _ (omega (arith, n, c .before .part .ensures)))
+slice-aggregate-open c =
+    let n : length (c .before .before .blank .result) ≡ sceneWords = search needs in
+    sym (length-take-le _ _ (omega (arith, n, c .before .part .ensures)))
 
 open-requires : tie.Need-open-requires
 open-requires c κs = search needs
 
-of-open-requires : tie.Need-of-open-requires
-of-open-requires c κs = search needs
+open-number-requires : tie.Need-open-number-requires
+open-number-requires c κs = search needs
+
+of-number-requires : tie.Need-of-number-requires
+of-number-requires c κs = search needs
 
 returns : tie.Need-returns
 returns c = search needs
@@ -38,5 +44,6 @@ open-spec =
     array-borrow-prefix-words
     slice-aggregate-open
     open-requires
-    of-open-requires
+    open-number-requires
+    of-number-requires
     returns)

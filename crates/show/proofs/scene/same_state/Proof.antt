@@ -15,7 +15,17 @@ returns-3 : tie.Need-returns-3
 returns-3 c = λ h. absurd (false≢true h)
 
 returns-4 : tie.Need-returns-4
-returns-4 c = λ h. λ i. record { page = c .before .before .before .before .before .before .before .before .if1 .left i; limit = c .before .before .before .before .before .if2 .left i; end = c .before .before .if3 .left i; count = eqb-true (c .before .before .before .before .before .before .before .before .before .before .before .args .a .count) (c .before .before .before .before .before .before .before .before .before .before .before .args .other .count) h i }
+returns-4 c =
+    let end-test = c .before .before in
+    let limit-test = end-test .before .before .before in
+    let page-test = limit-test .before .before .before in
+    let a = page-test .before .before .before .args in
+    λ h. λ i. record {
+      page = page-test .if1 .left i;
+      limit = limit-test .if2 .left i;
+      end = end-test .if3 .left i;
+      count = eqb-true (a .a .count) (a .other .count) h i;
+    }
 
 pub same-state-spec : {M : Type 1} → statement M
 same-state-spec = tie.close (tie.spec returns returns-2 returns-3 returns-4)
