@@ -1,31 +1,30 @@
 -- What `main` lends, and what a run keeps.
 --
---   lineBytes, tableWords   the bytes of a line, the words of a table: the most that a script may name
+--   lineBytes               the bytes of a line: the most that a script may have in one
+--   mostEntries, tableWords the entries of a table, and its words: the most that a script may name
 --   mostRoom                the most words or bytes that are lent to a call
---   Kept s r                r has the words of the lent table and the bytes of the line that s has
 --   Carried r               a run's table is no longer than the lent one, and its line has room
 --   WriteFits args          the words of `write` fit their fields and the lent bytes
 --   Rows page end           a page has a byte, and nothing overflows when a file is drawn page by page
 --
 -- Assumes nothing.
-use mathlib.Core.Path.{_≡_}
 use mathlib.Core.List.{List}
-use Prim.Native.Nat.{ℕ, _<_, _≤_}
+use Prim.Native.Nat.{ℕ, _*_, _<_, _≤_}
 use lib.ListN.{getD}
+use Rattle.pieces.specs.Words.{entryWords}
 use Rattle.filespace.specs.declared.report.Run.{Run}
 
 abbrev pub lineBytes : ℕ
 lineBytes = 100000
 
+abbrev pub mostEntries : ℕ
+mostEntries = 2048
+
 abbrev pub tableWords : ℕ
-tableWords = 6144
+tableWords = mostEntries * entryWords
 
 abbrev pub mostRoom : ℕ
 mostRoom = 4096
-
-pub record Kept (s r : Run) : Type 0 where
-  pub used : r .used ≡ s .used
-  pub filled : r .filled ≡ s .filled
 
 pub record Carried (r : Run) : Type 0 where
   pub used : r .used ≤ tableWords

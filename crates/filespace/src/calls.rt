@@ -37,8 +37,10 @@ fn place_in(names: &[u8], count: usize, word: &[u8]) -> usize {
     i
 }
 
-fn call_at(place: usize) -> Call {
-    match place {
+pub fn call_of(word: &[u8]) -> Call {
+    let names: &[u8] =
+        b"open default allocate release extend shorten list state words table map show read write";
+    match place_in(names, 14, word) {
         0 => Call::Open,
         1 => Call::Default,
         2 => Call::Allocate,
@@ -55,14 +57,6 @@ fn call_at(place: usize) -> Call {
         13 => Call::Write,
         _ => Call::NoCall,
     }
-}
-
-pub fn call_of(word: &[u8]) -> Call {
-    call_at(place_in(
-        b"open default allocate release extend shorten list state words table map show read write",
-        14,
-        word,
-    ))
 }
 
 // Whether a call takes so many words.

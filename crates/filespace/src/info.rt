@@ -9,6 +9,7 @@ use crate::report;
 use crate::say;
 use message::Answer;
 use message::Fields;
+use space::answers::DONE;
 
 const TYPES: usize = 6;
 
@@ -45,16 +46,14 @@ fn say_fields(fields: Fields) {
     say_addresses(&large);
 }
 
-fn say_refused(answer: Answer) {
-    say::labelled(b"refused ", message::number_of(answer));
-}
-
 // The fields, or the refusal.
 fn say_read(answer: Answer, fields: Fields) {
-    match answer {
-        Answer::Done => say_fields(fields),
-        Answer::Refused(_) => say_refused(answer),
+    let number = message::number_of(answer);
+    if number == DONE {
+        say_fields(fields);
+        return;
     }
+    report::say_told(number);
 }
 
 fn say_message(bytes: &[u8]) {
@@ -123,20 +122,15 @@ fn fields_of(args: &[u64; TABLE_WORDS]) -> Fields
     }
 }
 
-fn say_written(answer: Answer, bytes: &[u8]) {
-    match answer {
-        Answer::Done => {
-            say::text(b"wrote ");
-            say::hex(bytes);
-        }
-        Answer::Refused(_) => say_refused(answer),
+fn write_into(fields: Fields, room: &mut [u8]) {
+    let number = message::number_of(message::write(fields, room));
+    if number == DONE {
+        say::text(b"wrote ");
+        say::hex(room);
+    } else {
+        report::say_told(number);
     }
     say::text(b"\n");
-}
-
-fn write_into(fields: Fields, room: &mut [u8]) {
-    let answer = message::write(fields, room);
-    say_written(answer, room);
 }
 
 pub fn write(line: u64, args: &[u64; TABLE_WORDS]) {

@@ -14,13 +14,16 @@ ghost use Prim.Native.Nat.{_≤_};
 ghost use lib.ListN.{length};
 ghost use Rattle.filespace.specs.Lent.{Carried, lineBytes, tableWords};
 use libc::STDIN_FILENO;
+use pieces::ENTRY_WORDS;
 use report::Run;
 use space::Space;
 
 const LINE: usize = 100000;
 
-// The words of the lent table, and the most that a call names.
-const TABLE_WORDS: usize = 6144;
+// The entries of the lent table, the most that an opening may name, and its words, the most that a call names.
+const MOST_ENTRIES: usize = 2048;
+
+const TABLE_WORDS: usize = MOST_ENTRIES * ENTRY_WORDS;
 
 const NEWLINE: u8 = b'\n';
 
@@ -74,11 +77,14 @@ fn feed(run: Run, byte: u8, line: &mut [u8; LINE], table: &mut [u64; TABLE_WORDS
         return end_line(run, line, table);
     }
     let filled = run.filled;
+    let mut next = run;
     if filled < LINE {
         line[filled] = byte;
-        return run.longer();
+        next.filled = filled + 1;
+        return next;
     }
-    run.too_long()
+    next.is_long = true;
+    next
 }
 
 // The bytes that were read, one by one.
@@ -103,7 +109,9 @@ fn turn(run: Run, line: &mut [u8; LINE], table: &mut [u64; TABLE_WORDS]) -> Run
     let mut chunk = io::large_buffer();
     let got = libc::read(STDIN_FILENO, &mut chunk);
     if got <= 0 {
-        return end_line(run, line, table).over();
+        let mut last = end_line(run, line, table);
+        last.is_over = true;
+        return last;
     }
     let n = io::count(got, &chunk);
     feed_all(run, &chunk[..n], line, table)

@@ -7,8 +7,6 @@ use crate::report::Run;
 use crate::say;
 use crate::tables::entries_of;
 
-const ENTRY_WORDS: usize = 3;
-
 // A row has at most so many marks, and a picture so many rows.
 const MARKS: u64 = 64;
 
@@ -42,9 +40,9 @@ fn mark_at(table: &[u64], n: usize, address: u64) -> u8
 {
     let mut i = 0;
     while i < n {
-        let w = i * ENTRY_WORDS;
-        if covers(table[w], table[w + 1], address) {
-            return mark_of(table[w + 2]);
+        let entry = pieces::words_at(table, i);
+        if covers(entry.address, entry.size, address) {
+            return mark_of(entry.kind);
         }
         i += 1;
     }

@@ -1,9 +1,8 @@
 // What a run carries from line to line, and the forms of its answers.
 ghost use mathlib.Core.Path.{_≡_};
-ghost use Prim.Native.Nat.{_+_, _<_};
-ghost use Rattle.filespace.specs.Lent.{Kept, lineBytes};
 use crate::say;
 use space::Space;
+use space::answers::DONE;
 
 pub struct Run {
     // The state that the next call gets, and how many words the lent table has.
@@ -24,28 +23,6 @@ impl Run {
         self.line = std::num::wrapping_add_u64(self.line, 1);
         self.filled = 0;
         self.is_long = false;
-        self
-    }
-
-    pub fn longer(mut self) -> Run
-        requires { ⌜ self .filled < lineBytes ⌝ }
-        ensures { λ r. ⌜ (r .used ≡ self .used) × (r .filled ≡ self .filled + 1) ⌝ }
-    {
-        self.filled = self.filled + 1;
-        self
-    }
-
-    pub fn too_long(mut self) -> Run
-        ensures { λ r. ⌜ Kept self r ⌝ }
-    {
-        self.is_long = true;
-        self
-    }
-
-    pub fn over(mut self) -> Run
-        ensures { λ r. ⌜ Kept self r ⌝ }
-    {
-        self.is_over = true;
         self
     }
 
@@ -73,19 +50,24 @@ fn ended(space: Space) {
     say::text(b" entries\n");
 }
 
-pub fn placed(space: Space, address: u64) {
-    say::labelled(b"at ", address);
-    ended(space);
+// The address at which a piece was placed, where the number is that of an accepted call; else the refusal.
+pub fn placed(space: Space, number: u64, address: u64) {
+    if number == DONE {
+        say::labelled(b"at ", address);
+        ended(space);
+        return;
+    }
+    told(space, number);
 }
 
-// Done at 0, else refused.
 pub fn told(space: Space, number: u64) {
     say_told(number);
     ended(space);
 }
 
+// Done or refused, by the number.
 pub fn say_told(number: u64) {
-    if number == 0 {
+    if number == DONE {
         say::text(b"done");
         return;
     }

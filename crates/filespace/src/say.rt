@@ -20,11 +20,6 @@ pub fn labelled(label: &[u8], n: u64) {
     number(n);
 }
 
-// A number behind a blank.
-pub fn spaced(n: u64) {
-    labelled(b" ", n);
-}
-
 // The blanks before `used` bytes in a column, up to 20 of them.
 fn blanks(width: usize, used: usize) {
     let spaces = [b' '; NUMBER_BYTES];

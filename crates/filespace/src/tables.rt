@@ -4,8 +4,7 @@ ghost use lib.ListN.{length};
 ghost use Rattle.pieces.specs.Words.{entryWords};
 use crate::report::Run;
 use crate::say;
-
-const ENTRY_WORDS: usize = 3;
+use pieces::ENTRY_WORDS;
 
 const COLUMN: usize = 12;
 
@@ -73,8 +72,8 @@ fn say_entries(page: u64, n: usize, table: &[u64])
 {
     let mut i = 0;
     while i < n {
-        let w = i * ENTRY_WORDS;
-        say_entry(page, table[w], table[w + 1], table[w + 2]);
+        let entry = pieces::words_at(table, i);
+        say_entry(page, entry.address, entry.size, entry.kind);
         i += 1;
     }
 }

@@ -1,4 +1,5 @@
--- `filespace::answer::read_numbers` is safe and ends: each word ends within the line, and i counts the numbers, of which no more are read than there is room for.
+-- `filespace::answer::read_numbers` is safe and ends: each word ends within the line, and i counts the numbers, of which no more are read
+-- than there is room for.
 -- Assumes nothing.
 use Prim.Native.Nat.{_≤_, _-_}
 use mathlib.Core.Path.{_≡_}
@@ -65,7 +66,10 @@ loop-less : tie.Need-loop-less Inv-loop μ-loop
 loop-less c = search needs
 
 loop-again : tie.Need-loop-again Inv-loop μ-loop
-loop-again c = ((search needs, c .before .before .before .before .before .next-word .ensures .ends-at .within), simp length-set (c .before .before .before .before .before .before .before .loop .inv .1))
+loop-again c =
+    let word = c .before .before .before .before .before .next-word .ensures in
+    let l = c .before .before .before .before .before .before .before .loop in
+    ((search needs, word .ends-at .within), simp length-set (l .inv .1))
 
 same-length-3 : tie.Need-same-length-3 Inv-loop μ-loop
 same-length-3 c = search needs

@@ -1,4 +1,5 @@
--- `filespace::give::open` is safe and ends, and keeps its contract: the lent part is no longer than the slice. It has three words for each entry, and at most 2,048 entries.
+-- `filespace::give::open` is safe and ends, and keeps its contract: the lent part has the words of at most 2,048 entries, and so is no longer than
+-- the slice.
 -- Assumes nothing.
 use lib.Seq.{length-take-le}
 use mathlib.Core.Path.{sym}

@@ -1,4 +1,4 @@
--- `filespace::give::words` is safe and ends, and keeps its contract: the lent part is no longer than the slice. There is no more to copy than there is room for.
+-- `filespace::give::words` is safe and ends, and keeps its contract: no more words are copied than there is room for.
 -- Assumes nothing.
 use lib.ListN.{length-take}
 use lib.Seq.{length-take-le}

@@ -1,4 +1,4 @@
--- `filespace::info::write` is safe and ends, and keeps its contract: the lent part is no longer than the slice. The words fit their fields, since `fits` said so.
+-- `filespace::info::write` is safe and ends: the lent part is no longer than the array, and the words fit their fields, since `fits` said so.
 -- Assumes nothing.
 use native.Mathlib.Omega.{arith}
 use borrow.Author.Needs.{needs}
@@ -20,7 +20,9 @@ array-borrow-prefix-bytes : tie.Need-array-borrow-prefix-bytes
 array-borrow-prefix-bytes c = omega (arith, (c .before .before .before .fits2 .ensures (c .before .before .if1 .taken)) .room)
 
 slice-aggregate-write-into : tie.Need-slice-aggregate-write-into
-slice-aggregate-write-into c = sym (length-take-le _ _ (omega (arith, (c .before .before .before .before .fits2 .ensures (c .before .before .before .if1 .taken)) .room)))
+slice-aggregate-write-into c =
+    let fit = c .before .before .before .before .fits2 .ensures (c .before .before .before .if1 .taken) in
+    sym (length-take-le _ _ (omega (arith, fit .room)))
 
 write-into-requires : tie.Need-write-into-requires
 write-into-requires c κs = search needs

@@ -1,10 +1,8 @@
 -- `filespace::map::map` is safe: a sound file can be drawn page by page.
 -- Assumes nothing.
-use Rattle.filespace.proofs.MapLaws.{sound-rows}
+use Rattle.filespace.proofs.MapLaws.{rows-of-test}
 use borrow.Author.Needs.{needs}
-use borrow.Author.Tests.{not-false}
 use lib.Seq.{length-take-le}
-use mathlib.Core.Path.{sym, _∙_}
 use mathlib.Core.Path.{sym}
 use Rattle.filespace.proofs.map.map.Statement.{statement}
 use Rattle.filespace.proofs.map.map.Tie as tie
@@ -28,10 +26,14 @@ entries-of-requires : tie.Need-entries-of-requires
 entries-of-requires c κs = search needs
 
 say-rows-requires : tie.Need-say-rows-requires
-say-rows-requires c κs = (search needs, sound-rows _ _ _ _ _ (sym (c .before .before .is-sound .ensures) ∙ not-false (c .before .before .is-sound .result) (c .before .if1 .left)))
+say-rows-requires c κs =
+    let test = c .before .before .is-sound in
+    (search needs, rows-of-test _ _ _ _ _ _ (test .ensures) (c .before .if1 .left))
 
 say-legend-requires : tie.Need-say-legend-requires
-say-legend-requires c κs = sound-rows _ _ _ _ _ (sym (c .before .before .before .is-sound .ensures) ∙ not-false (c .before .before .before .is-sound .result) (c .before .before .if1 .left))
+say-legend-requires c κs =
+    let test = c .before .before .before .is-sound in
+    rows-of-test _ _ _ _ _ _ (test .ensures) (c .before .before .if1 .left)
 
 returns-2 : tie.Need-returns-2
 returns-2 c = search needs

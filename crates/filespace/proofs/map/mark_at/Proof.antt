@@ -14,35 +14,11 @@ abbrev μ-loop : tie.MeasureT-loop
 loop-holds : tie.Need-loop-holds Inv-loop μ-loop
 loop-holds c = search needs
 
-mul-w : tie.Need-mul-w Inv-loop μ-loop
-mul-w c = search needs
-
-mul-covers : tie.Need-mul-covers Inv-loop μ-loop
-mul-covers c = search needs
-
-shared-slice-read-covers : tie.Need-shared-slice-read-covers Inv-loop μ-loop
-shared-slice-read-covers c = search needs
-
-add-covers : tie.Need-add-covers Inv-loop μ-loop
-add-covers c = search needs
-
-mul-covers-2 : tie.Need-mul-covers-2 Inv-loop μ-loop
-mul-covers-2 c = search needs
-
-shared-slice-read-covers-2 : tie.Need-shared-slice-read-covers-2 Inv-loop μ-loop
-shared-slice-read-covers-2 c = search needs
+words-at-requires : tie.Need-words-at-requires Inv-loop μ-loop
+words-at-requires c κs = search needs
 
 covers-requires : tie.Need-covers-requires Inv-loop μ-loop
 covers-requires c κs = search needs
-
-add-mark-of : tie.Need-add-mark-of Inv-loop μ-loop
-add-mark-of c = search needs
-
-mul-mark-of : tie.Need-mul-mark-of Inv-loop μ-loop
-mul-mark-of c = search needs
-
-shared-slice-read-mark-of : tie.Need-shared-slice-read-mark-of Inv-loop μ-loop
-shared-slice-read-mark-of c = search needs
 
 mark-of-requires : tie.Need-mark-of-requires Inv-loop μ-loop
 mark-of-requires c κs = search needs
@@ -69,16 +45,8 @@ mark-at-spec =
     Inv-loop
     μ-loop
     loop-holds
-    mul-w
-    mul-covers
-    shared-slice-read-covers
-    add-covers
-    mul-covers-2
-    shared-slice-read-covers-2
+    words-at-requires
     covers-requires
-    add-mark-of
-    mul-mark-of
-    shared-slice-read-mark-of
     mark-of-requires
     returns
     add-i

@@ -17,10 +17,14 @@ loop-holds : tie.Need-loop-holds Inv-loop μ-loop
 loop-holds c = search needs
 
 say-row-requires : tie.Need-say-row-requires Inv-loop μ-loop
-say-row-requires c κs = (search needs, record { some = search needs; page-most = search needs; end-most = omega (arith, ltb-true, c .if1 .taken, c .before .before .before .before .pre .1 .end-most) })
+say-row-requires c κs =
+    let rows = c .before .before .before .before .pre .1 in
+    (search needs, record { some = search needs; page-most = search needs; end-most = omega (arith, ltb-true, c .if1 .taken, rows .end-most) })
 
 add-start : tie.Need-add-start Inv-loop μ-loop
-add-start c = omega (arith, ltb-true, c .before .if1 .taken, c .before .before .before .before .before .pre .1 .end-most, c .before .before .before .before .before .pre .1 .page-most)
+add-start c =
+    let rows = c .before .before .before .before .before .pre .1 in
+    omega (arith, ltb-true, c .before .if1 .taken, rows .end-most, rows .page-most)
 
 add-row : tie.Need-add-row Inv-loop μ-loop
 add-row c = search needs

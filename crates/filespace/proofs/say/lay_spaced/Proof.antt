@@ -18,7 +18,10 @@ same-length : tie.Need-same-length
 same-length c = search needs
 
 returns : tie.Need-returns
-returns c = (omega (arith, c .before .before .lay-number .ensures .few, c .before .before .before .before .before .before .lay .ensures .place, same-length c), same-length c)
+returns c =
+    let number = c .before .before .lay-number .ensures in
+    let blank = c .before .before .before .before .before .before .lay .ensures in
+    (omega (arith, number .few, blank .place, same-length c), same-length c)
 
 pub lay-spaced-spec : {M : Type 1} → statement M
 lay-spaced-spec = tie.close (tie.spec slice-aggregate-lay lay-requires lay-number-requires same-length returns)

@@ -14,32 +14,8 @@ abbrev μ-loop : tie.MeasureT-loop
 loop-holds : tie.Need-loop-holds Inv-loop μ-loop
 loop-holds c = search needs
 
-mul-w : tie.Need-mul-w Inv-loop μ-loop
-mul-w c = search needs
-
-mul-say-entry : tie.Need-mul-say-entry Inv-loop μ-loop
-mul-say-entry c = search needs
-
-shared-slice-read-say-entry : tie.Need-shared-slice-read-say-entry Inv-loop μ-loop
-shared-slice-read-say-entry c = search needs
-
-add-say-entry : tie.Need-add-say-entry Inv-loop μ-loop
-add-say-entry c = search needs
-
-mul-say-entry-2 : tie.Need-mul-say-entry-2 Inv-loop μ-loop
-mul-say-entry-2 c = search needs
-
-shared-slice-read-say-entry-2 : tie.Need-shared-slice-read-say-entry-2 Inv-loop μ-loop
-shared-slice-read-say-entry-2 c = search needs
-
-add-say-entry-2 : tie.Need-add-say-entry-2 Inv-loop μ-loop
-add-say-entry-2 c = search needs
-
-mul-say-entry-3 : tie.Need-mul-say-entry-3 Inv-loop μ-loop
-mul-say-entry-3 c = search needs
-
-shared-slice-read-say-entry-3 : tie.Need-shared-slice-read-say-entry-3 Inv-loop μ-loop
-shared-slice-read-say-entry-3 c = search needs
+words-at-requires : tie.Need-words-at-requires Inv-loop μ-loop
+words-at-requires c κs = search needs
 
 say-entry-requires : tie.Need-say-entry-requires Inv-loop μ-loop
 say-entry-requires c κs = search needs
@@ -63,15 +39,7 @@ say-entries-spec =
     Inv-loop
     μ-loop
     loop-holds
-    mul-w
-    mul-say-entry
-    shared-slice-read-say-entry
-    add-say-entry
-    mul-say-entry-2
-    shared-slice-read-say-entry-2
-    add-say-entry-2
-    mul-say-entry-3
-    shared-slice-read-say-entry-3
+    words-at-requires
     say-entry-requires
     add-i
     loop-less
