@@ -1,4 +1,4 @@
-// The accepted calls as claims, in short.
+// The accepted calls as claims, in short, and the tables that they must leave.
 use show::answer;
 use show::answer::Answer;
 use show::case;
@@ -6,8 +6,8 @@ use show::claim::Tally;
 use show::scene;
 use show::scene::Call;
 use show::scene::Scene;
-use show::scene::WORDS;
 use space::Space;
+use std::num::wrapping_add_u64;
 
 // That a release, an extend or a shorten is done, and leaves this end.
 pub fn done(t: Tally, text: &[u8], k: u64, s: Scene, call: Call, end: u64) -> Tally {
@@ -19,22 +19,7 @@ pub fn placed(t: Tally, text: &[u8], k: u64, s: Scene, call: Call, at: u64, end:
     case::answers(t, text, k, s, call, Answer::At(at), end)
 }
 
-// The scene with another end, another count of entries and other words.
-fn with_table(s: Scene, end: u64, count: u64, words: [u64; WORDS]) -> Scene {
-    let given = s.space;
-    Scene {
-        space: Space {
-            page: given.page,
-            limit: given.limit,
-            end,
-            count,
-        },
-        words,
-        len: s.len,
-    }
-}
-
-// That the call has this answer, and leaves this end, this count of entries and exactly these words.
+// That the call has this answer, and leaves exactly this state and these words.
 pub fn answers_and_leaves(
     t: Tally,
     text: &[u8],
@@ -42,9 +27,7 @@ pub fn answers_and_leaves(
     s: Scene,
     call: Call,
     expected: Answer,
-    end: u64,
-    count: u64,
-    words: [u64; WORDS],
+    after: Scene,
 ) -> Tally {
     let asked = scene::ask(s, call);
     let found = asked.answer;
@@ -52,29 +35,51 @@ pub fn answers_and_leaves(
         return t.answer(text, k, expected, found);
     }
     let left = asked.scene;
-    case::same(t, text, k, with_table(s, end, count, words), left)
+    case::same(t, text, k, after, left)
 }
 
-// That a release, an extend or a shorten is done, and leaves this table.
-pub fn leaves(
-    t: Tally,
-    text: &[u8],
-    k: u64,
-    s: Scene,
-    call: Call,
-    end: u64,
-    count: u64,
-    words: [u64; WORDS],
-) -> Tally {
-    answers_and_leaves(t, text, k, s, call, Answer::Done, end, count, words)
+// That a release, an extend or a shorten is done, and leaves this.
+pub fn leaves(t: Tally, text: &[u8], k: u64, s: Scene, call: Call, after: Scene) -> Tally {
+    answers_and_leaves(t, text, k, s, call, Answer::Done, after)
 }
 
-// The words of a table of one entry.
-pub fn one(size: u64, kind: u64) -> [u64; WORDS] {
-    scene::with_entry(scene::blank(), 0, 0, size, kind)
+// The scene with no entry.
+pub fn none(s: Scene) -> Scene {
+    let given = s.space;
+    Scene {
+        space: Space {
+            page: given.page,
+            limit: given.limit,
+            end: 0,
+            count: 0,
+        },
+        words: scene::blank(),
+        len: s.len,
+    }
 }
 
-// Of two, the second where the first one ends.
-pub fn two(size: u64, kind: u64, next_size: u64, next_kind: u64) -> [u64; WORDS] {
-    scene::with_entry(one(size, kind), 1, size, next_size, next_kind)
+// The scene with one entry more, which starts where the last one ends. Its end is the file's.
+pub fn added(s: Scene, size: u64, kind: u64) -> Scene {
+    let given = s.space;
+    let words = s.words;
+    Scene {
+        space: Space {
+            page: given.page,
+            limit: given.limit,
+            end: wrapping_add_u64(given.end, size),
+            count: wrapping_add_u64(given.count, 1),
+        },
+        words: scene::with_entry(words, given.count as usize, given.end, size, kind),
+        len: s.len,
+    }
+}
+
+// The scene with one entry.
+pub fn one(s: Scene, size: u64, kind: u64) -> Scene {
+    added(none(s), size, kind)
+}
+
+// With two.
+pub fn two(s: Scene, size: u64, kind: u64, next_size: u64, next_kind: u64) -> Scene {
+    added(one(s, size, kind), next_size, next_kind)
 }

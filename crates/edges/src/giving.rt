@@ -1,26 +1,26 @@
 // Giving back, lengthening, shortening: refusals 4, 5, 7, 8, 9 from both sides (2 is with the damaged tables, 6 with the full ones).
+use crate::cases::added;
 use crate::cases::done;
 use crate::cases::leaves;
+use crate::cases::none;
 use crate::cases::one;
 use crate::cases::two;
 use crate::scenes;
 use show::case::refuses;
 use show::claim::Tally;
-use show::document;
 use show::scene;
 use show::scene::Call;
-use show::scene::WORDS;
+use show::scene::Scene;
 use space::place::METADATA;
 use space::place::RAW;
 
 const LARGEST: u64 = 18446744073709551615;
 
 // Document 01's table after step 6: in place of the large piece, its two pages are free.
-fn after_step_six() -> [u64; WORDS] {
-    let w = document::after_step_twelve();
-    let w = scene::with_entry(w, 4, 1024, 1024, 6);
-    let w = scene::with_entry(w, 5, 2048, 10, 1);
-    scene::with_entry(w, 6, 2058, 502, 4)
+fn after_step_six() -> Scene {
+    let s = added(scenes::twelve(), 1024, 6);
+    let s = added(s, 10, 1);
+    added(s, 502, 4)
 }
 
 fn releases(t: Tally) -> Tally {
@@ -36,16 +36,7 @@ fn releases(t: Tally) -> Tally {
                      release of a zero entry behind the table is refused 7\n\
                      a second release of the same piece is refused 7";
     let s = scenes::five();
-    let t = leaves(
-        t,
-        c,
-        0,
-        s,
-        Call::Release(1024, 700),
-        2560,
-        7,
-        after_step_six(),
-    );
+    let t = leaves(t, c, 0, s, Call::Release(1024, 700), after_step_six());
     let t = refuses(t, c, 1, s, Call::Release(1024, 699), 7);
     let t = refuses(t, c, 2, s, Call::Release(1024, 701), 7);
     let t = refuses(t, c, 3, s, Call::Release(1023, 700), 7);
@@ -64,18 +55,9 @@ fn part_pages(t: Tally) -> Tally {
                      the last piece's release empties the file";
     let s = scene::after(scenes::empty(), Call::Allocate(RAW, 700));
     let s = scene::after(s, Call::Allocate(RAW, 512));
-    let t = leaves(
-        t,
-        c,
-        0,
-        s,
-        Call::Release(1024, 512),
-        1024,
-        2,
-        two(700, 3, 324, 6),
-    );
+    let t = leaves(t, c, 0, s, Call::Release(1024, 512), two(s, 700, 3, 324, 6));
     let s = scenes::one();
-    leaves(t, c, 1, s, Call::Release(0, 96), 0, 0, scene::blank())
+    leaves(t, c, 1, s, Call::Release(0, 96), none(s))
 }
 
 fn extends_small(t: Tally) -> Tally {
@@ -89,16 +71,7 @@ fn extends_small(t: Tally) -> Tally {
                      a small piece may reach P - 1\n\
                      a small piece may not reach P";
     let s = scenes::one();
-    let t = leaves(
-        t,
-        c,
-        0,
-        s,
-        Call::Extend(0, 96, 415),
-        512,
-        2,
-        two(511, 1, 1, 4),
-    );
+    let t = leaves(t, c, 0, s, Call::Extend(0, 96, 415), two(s, 511, 1, 1, 4));
     let t = refuses(t, c, 1, s, Call::Extend(0, 96, 416), 8);
     let t = refuses(t, c, 2, s, Call::Extend(0, 96, LARGEST), 8);
     let next = scene::after(s, Call::Allocate(METADATA, 100));
@@ -108,9 +81,7 @@ fn extends_small(t: Tally) -> Tally {
         3,
         next,
         Call::Extend(96, 100, 316),
-        512,
-        2,
-        two(96, 1, 416, 1),
+        two(next, 96, 1, 416, 1),
     );
     let t = refuses(t, c, 4, next, Call::Extend(96, 100, 317), 8);
     let t = refuses(t, c, 5, next, Call::Extend(0, 96, 1), 8);
@@ -154,30 +125,19 @@ fn extends_large(t: Tally) -> Tally {
     let t = done(t, c, 0, s, Call::Extend(1024, 700, 324), 2560);
     let t = refuses(t, c, 1, s, Call::Extend(1024, 700, 325), 8);
     let s = scene::after(scenes::empty(), Call::Allocate(RAW, 512));
-    let t = leaves(
-        t,
-        c,
-        2,
-        s,
-        Call::Extend(0, 512, 4608),
-        5120,
-        1,
-        one(5120, 3),
-    );
+    let t = leaves(t, c, 2, s, Call::Extend(0, 512, 4608), one(s, 5120, 3));
     let t = leaves(
         t,
         c,
         3,
         s,
         Call::Extend(0, 512, 513),
-        1536,
-        2,
-        two(1025, 3, 511, 6),
+        two(s, 1025, 3, 511, 6),
     );
     let t = refuses(t, c, 4, s, Call::Extend(0, 512, 4609), 5);
     let t = refuses(t, c, 5, s, Call::Extend(0, 512, LARGEST), 5);
     let s = scene::after(scenes::empty(), Call::Allocate(RAW, 700));
-    let t = leaves(t, c, 6, s, Call::Extend(0, 700, 324), 1024, 1, one(1024, 3));
+    let t = leaves(t, c, 6, s, Call::Extend(0, 700, 324), one(s, 1024, 3));
     let t = refuses(t, c, 7, s, Call::Extend(0, 700, 325), 8);
     refuses(t, c, 8, s, Call::Extend(0, 700, LARGEST), 8)
 }
@@ -219,25 +179,14 @@ fn shortens(t: Tally) -> Tally {
     let t = refuses(t, c, 5, s, Call::Shorten(1024, 700, 189), 9);
     let t = refuses(t, c, 6, s, Call::Shorten(1024, 700, LARGEST), 9);
     let s = scene::after(scenes::empty(), Call::Allocate(RAW, 2048));
-    let t = leaves(
-        t,
-        c,
-        7,
-        s,
-        Call::Shorten(0, 2048, 1024),
-        1024,
-        1,
-        one(1024, 3),
-    );
+    let t = leaves(t, c, 7, s, Call::Shorten(0, 2048, 1024), one(s, 1024, 3));
     leaves(
         t,
         c,
         8,
         s,
         Call::Shorten(0, 2048, 1000),
-        1536,
-        2,
-        two(1048, 3, 488, 6),
+        two(s, 1048, 3, 488, 6),
     )
 }
 

@@ -19,6 +19,8 @@ use space::place::RAW;
 
 const LIST_WORDS: usize = 6;
 
+const UNTOUCHED: [u64; LIST_WORDS] = [7; LIST_WORDS];
+
 const LARGEST: u64 = 18446744073709551615;
 
 struct Lists {
@@ -40,7 +42,7 @@ fn part(len: usize) -> usize
 fn list(s: Scene, manager: u64, len: usize) -> Lists {
     let table = s.words;
     let lent = scene::part(s.len);
-    let mut out = [7u64; LIST_WORDS];
+    let mut out = UNTOUCHED;
     let most = part(len);
     let state = s.space;
     let done = state.list(&table[..lent], manager, &mut out[..most]);
@@ -73,7 +75,7 @@ fn holds(s: Scene, found: Lists, expected: Answer, words: [u64; LIST_WORDS]) -> 
 
 pub fn is_refused(s: Scene, manager: u64, number: u64) -> bool {
     let found = list(s, manager, LIST_WORDS);
-    holds(s, found, Answer::Refused(number), [7, 7, 7, 7, 7, 7])
+    holds(s, found, Answer::Refused(number), UNTOUCHED)
 }
 
 fn say_pair(address: u64, size: u64) {
@@ -91,15 +93,18 @@ fn say_answer_and_out(a: Answer, out: [u64; LIST_WORDS]) {
     say(b" ..");
 }
 
-fn judge(
+// That a listing into the first `len` words has this answer, and leaves these words.
+fn answers(
     t: Tally,
     text: &[u8],
     k: u64,
     s: Scene,
-    found: Lists,
+    manager: u64,
+    len: usize,
     expected: Answer,
     words: [u64; LIST_WORDS],
 ) -> Tally {
+    let found = list(s, manager, len);
     let held = holds(s, found, expected, words);
     claim::say_claim(held, text, k);
     if !held {
@@ -124,16 +129,8 @@ fn lists_one(
     address: u64,
     size: u64,
 ) -> Tally {
-    let found = list(s, manager, len);
-    judge(
-        t,
-        text,
-        k,
-        s,
-        found,
-        Answer::Sections(1),
-        [address, size, 7, 7, 7, 7],
-    )
+    let words = [address, size, 7, 7, 7, 7];
+    answers(t, text, k, s, manager, len, Answer::Sections(1), words)
 }
 
 // That the listing is refused with this number, and no word is written.
@@ -146,16 +143,8 @@ fn refuses(
     len: usize,
     number: u64,
 ) -> Tally {
-    let found = list(s, manager, len);
-    judge(
-        t,
-        text,
-        k,
-        s,
-        found,
-        Answer::Refused(number),
-        [7, 7, 7, 7, 7, 7],
-    )
+    let expected = Answer::Refused(number);
+    answers(t, text, k, s, manager, len, expected, UNTOUCHED)
 }
 
 // Two free sections of raw data: after step 5 a second page of raw data is begun.
@@ -194,13 +183,10 @@ fn lengths(t: Tally) -> Tally {
     let t = refuses(t, c, 3, s, 4, 0, 3);
     let two = two_raw();
     let t = refuses(t, c, 4, two, RAW, 3, 10);
-    let found = list(two, RAW, 4);
     let words = [612, 412, 3060, 12, 7, 7];
-    let t = judge(t, c, 5, two, found, Answer::Sections(2), words);
+    let t = answers(t, c, 5, two, RAW, 4, Answer::Sections(2), words);
     let none = scenes::empty();
-    let found = list(none, RAW, 0);
-    let words = [7, 7, 7, 7, 7, 7];
-    judge(t, c, 6, none, found, Answer::Sections(0), words)
+    answers(t, c, 6, none, RAW, 0, Answer::Sections(0), UNTOUCHED)
 }
 
 pub fn all(t: Tally) -> Tally {

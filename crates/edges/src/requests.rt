@@ -11,34 +11,15 @@ use show::document::TABLE_WORDS;
 use show::scene;
 use show::scene::Call;
 use show::scene::Scene;
-use show::scene::WORDS;
 use space::place::METADATA;
 use space::place::RAW;
 
 const LARGEST: u64 = 18446744073709551615;
 
-// That a raw piece of this size goes to address 0, and leaves this table.
-fn given(
-    t: Tally,
-    text: &[u8],
-    k: u64,
-    s: Scene,
-    size: u64,
-    end: u64,
-    count: u64,
-    words: [u64; WORDS],
-) -> Tally {
-    answers_and_leaves(
-        t,
-        text,
-        k,
-        s,
-        Call::Allocate(RAW, size),
-        Answer::At(0),
-        end,
-        count,
-        words,
-    )
+// That a raw piece of this size goes to address 0, and leaves this.
+fn given(t: Tally, text: &[u8], k: u64, s: Scene, size: u64, after: Scene) -> Tally {
+    let call = Call::Allocate(RAW, size);
+    answers_and_leaves(t, text, k, s, call, Answer::At(0), after)
 }
 
 fn small_and_large(t: Tally) -> Tally {
@@ -47,11 +28,11 @@ fn small_and_large(t: Tally) -> Tally {
                      with P = 1000 size 999 is small\n\
                      with P = 1000 size 1000 is large";
     let s = scenes::empty();
-    let t = given(t, c, 0, s, 511, 512, 2, two(511, 2, 1, 5));
-    let t = given(t, c, 1, s, 512, 512, 1, one(512, 3));
+    let t = given(t, c, 0, s, 511, two(s, 511, 2, 1, 5));
+    let t = given(t, c, 1, s, 512, one(s, 512, 3));
     let s = scenes::opened(1000, 5000, TABLE_WORDS);
-    let t = given(t, c, 2, s, 999, 1000, 2, two(999, 2, 1, 5));
-    given(t, c, 3, s, 1000, 1000, 1, one(1000, 3))
+    let t = given(t, c, 2, s, 999, two(s, 999, 2, 1, 5));
+    given(t, c, 3, s, 1000, one(s, 1000, 3))
 }
 
 fn codes_and_sizes(t: Tally) -> Tally {

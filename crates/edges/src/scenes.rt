@@ -49,6 +49,22 @@ pub fn five() -> Scene {
     with_state(512, 5120, 2560, 8)
 }
 
+// After step 12.
+pub fn twelve() -> Scene {
+    let words = document::after_step_twelve();
+    let space = Space {
+        page: 512,
+        limit: 5120,
+        end: 1024,
+        count: 4,
+    };
+    Scene {
+        space,
+        words,
+        len: TABLE_WORDS,
+    }
+}
+
 // C = 4, and four entries: a live and a free one of raw data, a live and a free one of metadata.
 pub fn full() -> Scene {
     let s = opened(512, 5120, LEAST_WORDS);

@@ -1,4 +1,5 @@
 // P = 1,000, which is no power of two: release, extend and shorten at their edges, each accepted call with the whole table that it leaves.
+use crate::cases::added;
 use crate::cases::leaves;
 use crate::cases::one;
 use crate::cases::two;
@@ -9,7 +10,6 @@ use show::document::TABLE_WORDS;
 use show::scene;
 use show::scene::Call;
 use show::scene::Scene;
-use show::scene::WORDS;
 use space::place::METADATA;
 use space::place::RAW;
 
@@ -26,17 +26,9 @@ fn large_and_small() -> Scene {
     scene::after(with_raw(1500), Call::Allocate(METADATA, 100))
 }
 
-// With page 2 as the entries i and j: a metadata piece of this size, and behind it, at this address, the free rest.
-fn with_page(
-    words: [u64; WORDS],
-    i: usize,
-    size: u64,
-    j: usize,
-    address: u64,
-    rest: u64,
-) -> [u64; WORDS] {
-    let w = scene::with_entry(words, i, 2000, size, 1);
-    scene::with_entry(w, j, address, rest, 4)
+// With page 2 behind it: a metadata piece of this size, and the free rest.
+fn with_page(s: Scene, size: u64, rest: u64) -> Scene {
+    added(added(s, size, 1), rest, 4)
 }
 
 fn releases(t: Tally) -> Tally {
@@ -44,10 +36,10 @@ fn releases(t: Tally) -> Tally {
                      P = 1000: release (0, 1500) merges it with the part page behind it\n\
                      P = 1000: release of a byte less is refused 7";
     let s = large_and_small();
-    let w = two(1500, 3, 500, 6);
-    let t = leaves(t, c, 0, s, Call::Release(2000, 100), 2000, 2, w);
-    let w = with_page(one(2000, 6), 1, 100, 2, 2100, 900);
-    let t = leaves(t, c, 1, s, Call::Release(0, 1500), 3000, 3, w);
+    let w = two(s, 1500, 3, 500, 6);
+    let t = leaves(t, c, 0, s, Call::Release(2000, 100), w);
+    let w = with_page(one(s, 2000, 6), 100, 900);
+    let t = leaves(t, c, 1, s, Call::Release(0, 1500), w);
     refuses(t, c, 2, s, Call::Release(2000, 99), 7)
 }
 
@@ -57,11 +49,11 @@ fn extends(t: Tally) -> Tally {
                      P = 1000: a large piece takes all of the part page behind it, 500 bytes\n\
                      P = 1000: a byte more than that is refused 8";
     let s = large_and_small();
-    let w = with_page(two(1500, 3, 500, 6), 2, 999, 3, 2999, 1);
-    let t = leaves(t, c, 0, s, Call::Extend(2000, 100, 899), 3000, 4, w);
+    let w = with_page(two(s, 1500, 3, 500, 6), 999, 1);
+    let t = leaves(t, c, 0, s, Call::Extend(2000, 100, 899), w);
     let t = refuses(t, c, 1, s, Call::Extend(2000, 100, 900), 8);
-    let w = with_page(one(2000, 3), 1, 100, 2, 2100, 900);
-    let t = leaves(t, c, 2, s, Call::Extend(0, 1500, 500), 3000, 3, w);
+    let w = with_page(one(s, 2000, 3), 100, 900);
+    let t = leaves(t, c, 2, s, Call::Extend(0, 1500, 500), w);
     refuses(t, c, 3, s, Call::Extend(0, 1500, 501), 8)
 }
 
@@ -70,18 +62,9 @@ fn extends_at_end(t: Tally) -> Tally {
                      P = 1000: a large piece at E grows the file up to M\n\
                      P = 1000: a large piece at E may not pass M: a byte more is refused 5";
     let s = with_raw(1000);
-    let w = two(1001, 3, 999, 6);
-    let t = leaves(t, c, 0, s, Call::Extend(0, 1000, 1), 2000, 2, w);
-    let t = leaves(
-        t,
-        c,
-        1,
-        s,
-        Call::Extend(0, 1000, 4000),
-        5000,
-        1,
-        one(5000, 3),
-    );
+    let w = two(s, 1001, 3, 999, 6);
+    let t = leaves(t, c, 0, s, Call::Extend(0, 1000, 1), w);
+    let t = leaves(t, c, 1, s, Call::Extend(0, 1000, 4000), one(s, 5000, 3));
     refuses(t, c, 2, s, Call::Extend(0, 1000, 4001), 5)
 }
 
@@ -91,11 +74,11 @@ fn shortens(t: Tally) -> Tally {
                      P = 1000: 1000 bytes may remain of a large piece, the rest is one entry\n\
                      P = 1000: 999 bytes may not remain of a large piece: refused 9";
     let s = large_and_small();
-    let w = with_page(two(1500, 3, 500, 6), 2, 1, 3, 2001, 999);
-    let t = leaves(t, c, 0, s, Call::Shorten(2000, 100, 99), 3000, 4, w);
+    let w = with_page(two(s, 1500, 3, 500, 6), 1, 999);
+    let t = leaves(t, c, 0, s, Call::Shorten(2000, 100, 99), w);
     let t = refuses(t, c, 1, s, Call::Shorten(2000, 100, 100), 9);
-    let w = with_page(two(1000, 3, 1000, 6), 2, 100, 3, 2100, 900);
-    let t = leaves(t, c, 2, s, Call::Shorten(0, 1500, 500), 3000, 4, w);
+    let w = with_page(two(s, 1000, 3, 1000, 6), 100, 900);
+    let t = leaves(t, c, 2, s, Call::Shorten(0, 1500, 500), w);
     refuses(t, c, 3, s, Call::Shorten(0, 1500, 501), 9)
 }
 
@@ -103,18 +86,9 @@ fn shortens_at_end(t: Tally) -> Tally {
     let c: &[u8] = b"P = 1000: a cut of 1500 at the end cuts two pages from the file\n\
                      P = 1000: a cut of 1499 at the end cuts one page, and a part page stays";
     let s = with_raw(2500);
-    let t = leaves(
-        t,
-        c,
-        0,
-        s,
-        Call::Shorten(0, 2500, 1500),
-        1000,
-        1,
-        one(1000, 3),
-    );
-    let w = two(1001, 3, 999, 6);
-    leaves(t, c, 1, s, Call::Shorten(0, 2500, 1499), 2000, 2, w)
+    let t = leaves(t, c, 0, s, Call::Shorten(0, 2500, 1500), one(s, 1000, 3));
+    let w = two(s, 1001, 3, 999, 6);
+    leaves(t, c, 1, s, Call::Shorten(0, 2500, 1499), w)
 }
 
 pub fn all(t: Tally) -> Tally {
