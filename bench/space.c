@@ -18,7 +18,7 @@ enum { false, true };
 long read(int fd, void *to, size_t bytes);
 long write(int fd, const void *from, size_t bytes);
 
-enum { ENTRY_WORDS = 3, MOST_WORDS = 3072, LEAST_WORDS = 12 };
+enum { ENTRY_WORDS = 3, MOST_WORDS = 1024 * ENTRY_WORDS, LEAST_WORDS = 4 * ENTRY_WORDS };
 enum { METADATA = 1, RAW = 2 };
 enum { LIVE_LARGE = 3, FREE_METADATA = 4, FREE_RAW = 5, FREE_LARGE = 6, TO_FREE = 3 };
 enum { NOT_SOUND = 2, UNKNOWN_TYPE = 3, NO_BYTES = 4, BEYOND_LIMIT = 5, TABLE_FULL = 6, NOT_LIVE = 7 };
