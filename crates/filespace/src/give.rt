@@ -4,6 +4,7 @@ ghost use Prim.Native.Nat.{_≤_};
 ghost use lib.ListN.{length};
 ghost use Rattle.filespace.specs.Lent.{tableWords};
 use crate::MOST_ENTRIES;
+use crate::MOST_ROOM;
 use crate::TABLE_WORDS;
 use crate::calls::Call;
 use crate::report;
@@ -22,9 +23,8 @@ use space::answers::open_number;
 use space::answers::release_number;
 use space::answers::shorten_number;
 
+// Address and size.
 const PAIR_WORDS: usize = 2;
-
-const MOST_ROOM: usize = 4096;
 
 // The words of a table that is lent anew.
 fn clear(table: &mut [u64]) {

@@ -4,6 +4,7 @@ ghost use mathlib.Core.Bool.{true};
 ghost use Prim.Native.Nat.{_≤_};
 ghost use lib.ListN.{length};
 ghost use Rattle.filespace.specs.Lent.{WriteFits, lineBytes};
+use crate::MOST_ROOM;
 use crate::TABLE_WORDS;
 use crate::report;
 use crate::say;
@@ -14,8 +15,6 @@ use space::answers::DONE;
 const TYPES: usize = 6;
 
 const ROOM_AT: usize = 18;
-
-const MOST_ROOM: usize = 4096;
 
 const MOST_BYTE: u64 = 255;
 

@@ -25,6 +25,9 @@ const MOST_ENTRIES: usize = 2048;
 
 const TABLE_WORDS: usize = MOST_ENTRIES * ENTRY_WORDS;
 
+// The most words or bytes that are lent to a call.
+const MOST_ROOM: usize = 4096;
+
 const NEWLINE: u8 = b'\n';
 
 // Four zeros over a table of no words.
