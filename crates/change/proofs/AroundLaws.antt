@@ -1,19 +1,19 @@
 -- Laws of the live pieces on the two sides of a place.
 --
--- In this order: the entries of a table, in parts; lists that end in a live piece; the former live piece (FormerIs, `former-is`) and a turn of
--- the walk to it; the next one (NextIs, `next-is`) and a turn of the walk to it.
+-- In this order: lists that end in a live piece; the former live piece (FormerIs, `former-is`) and a turn of the walk to it; the next one
+-- (NextIs, `next-is`) and a turn of the walk to it.
 --
 -- Assumes nothing.
 use Prim.Native.Nat.{ℕ, zero, suc, _+_, _-_, _≤_, _<_}
 use mathlib.Core.Bool.{true, false, cond}
 use mathlib.Core.List.{List, [], _∷_, _++_, append-nil}
 use mathlib.Core.Path.{_≡_, refl, sym, ap, _∙_}
-use native.Mathlib.Nat.{zero-add}
 use native.Mathlib.Numerals.{add-one}
 use native.Mathlib.Omega.{arith}
 use Rattle.change.specs.Change.{formerStep, formerOf, nextOf}
 use Rattle.change.specs.declared.around.Former.{Former}
-use Rattle.pieces.proofs.WordLaws.{entries-append}
+pub use Rattle.pieces.proofs.WordLaws.{entries-parts}
+use Rattle.pieces.proofs.WordLaws.{entries-snoc}
 use Rattle.pieces.specs.Pieces.{piece, behind, classOf, freeb}
 use Rattle.pieces.specs.Words.{entryAt, entries}
 use Rattle.pieces.specs.declared.Class.the-variants.{Large}
@@ -21,38 +21,16 @@ use Rattle.pieces.specs.declared.Class.{Class}
 use Rattle.pieces.specs.declared.Piece.{Piece}
 use Rattle.pieces.specs.declared.Status.the-variants.{Live, Free}
 use Rattle.pieces.specs.declared.Status.{Status}
-use Rattle.rules.proofs.SpliceLaws.{EndsLive, ends-none, ends-live, ends-free, StartsLive, starts-none, starts-live, lives-append}
+use Rattle.rules.proofs.SpliceLaws.{EndsLive, ends-none, ends-live, ends-free, StartsLive, starts-none, starts-live}
 use Rattle.rules.specs.Between.{lastClass}
+pub use Rattle.table.proofs.LivesLaws.{lives-live, lives-free}
+use Rattle.table.proofs.LivesLaws.{lives-append}
 use Rattle.table.specs.Fill.{lives, lastEnd}
-
--- ---- the entries in parts
-
-pub entries-parts : (w : List ℕ) (i j n : ℕ) → i ≤ j → j ≤ n → entries w 0 n ≡ entries w 0 i ++ (entries w i (j - i) ++ entries w j (n - j))
-entries-parts w i j n l m =
-    let e : n ≡ i + ((j - i) + (n - j)) = omega arith in
-    let f : i + (j - i) ≡ j = omega arith in
-    ap (entries w 0) e
-    ∙ (entries-append w 0 i ((j - i) + (n - j))
-    ∙ (rw zero-add (ap (λ (l : List Piece). entries w 0 i ++ l) (entries-append w i (j - i) (n - j) ∙ rw f))))
-
-entries-snoc : (w : List ℕ) (i : ℕ) → entries w 0 (suc i) ≡ entries w 0 i ++ (entryAt w i ∷ [])
-unfolding entries
-entries-snoc w i =
-    let e : suc i ≡ i + 1 = omega arith in
-    ap (entries w 0) e ∙ (entries-append w 0 i 1 ∙ rw zero-add)
 
 -- ---- a live piece behind a list
 
 live-piece : (x : Piece) {c : Class} → x .status ≡ Live c → x ≡ piece (x .address) (x .size) (Live c)
 live-piece x e = ap (λ (t : Status). piece (x .address) (x .size) t) e
-
-pub lives-live : (x : Piece) {c : Class} (es : List Piece) → x .status ≡ Live c → lives (x ∷ es) ≡ x ∷ lives es
-unfolding lives
-lives-live x es e = rw e
-
-pub lives-free : (x : Piece) {c : Class} (es : List Piece) → x .status ≡ Free c → lives (x ∷ es) ≡ lives es
-unfolding lives
-lives-free x es e = rw e
 
 ends-snoc : (xs : List Piece) (a z : ℕ) (c : Class) → EndsLive (xs ++ (piece a z (Live c) ∷ []))
 ends-snoc [] a z c = ends-live ends-none

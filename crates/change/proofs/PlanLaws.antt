@@ -11,34 +11,33 @@
 use Prim.Native.Nat.{ℕ, zero, suc, _+_, _-_, _≤_, _<_, _^_}
 use mathlib.Core.List.{List, [], _∷_, _++_, append-assoc}
 use mathlib.Core.Path.{_≡_, refl, sym, ap, _∙_, subst, subst⁻¹}
-use native.Mathlib.Nat.{zero-add}
 use native.Mathlib.Omega.{arith}
-use lib.ListN.{length, getD, length-append}
+use lib.ListN.{length, length-append}
 use borrow.Author.Tests.{lt-ltb, le-ltb}
-use Rattle.change.proofs.AroundLaws.{entries-parts, former-is, NextIs, next-is}
+use Rattle.change.proofs.AroundLaws.{former-is, NextIs, next-is}
 use Rattle.change.specs.Change.{formerStep, formerOf, nextOf, endBehind, planOf, PlanFits, Planned}
 use Rattle.change.specs.declared.around.Former.{Former}
 use Rattle.change.specs.declared.plan.Plan.{Plan}
-use Rattle.choose.specs.Place.{EndsFit}
 use Rattle.edit.proofs.FewLaws.{holding-more}
 use Rattle.edit.specs.Edit.{held, Holding}
 use Rattle.edit.specs.declared.few.Few.{Few}
 use Rattle.pages.proofs.Numbers.{split}
 use Rattle.pages.proofs.PageLaws.{page-pos}
 use Rattle.pages.specs.Pages.{up}
-use Rattle.pieces.proofs.WordLaws.{length-entries, entries-next, entries-none}
+use Rattle.pieces.proofs.WordLaws.{length-entries, entries-next, entries-none, entries-parts}
 use Rattle.pieces.specs.Pieces.{behind, classOf}
-use Rattle.pieces.specs.Words.{entryAt, entries}
+use Rattle.pieces.specs.Words.{entryAt, entries, EndsFit}
 use Rattle.pieces.specs.declared.Class.{Class}
 use Rattle.pieces.specs.declared.Piece.{Piece}
 use Rattle.pieces.specs.declared.Status.the-variants.{Live, Free}
 use Rattle.pieces.specs.declared.Status.{Status}
-use Rattle.rules.proofs.SpliceLaws.{StartsLive, starts-none, starts-live, lives-append, splice}
+use Rattle.rules.proofs.SpliceLaws.{StartsLive, starts-none, starts-live, splice}
 use Rattle.rules.specs.Between.{frontFrom, lastClass, closing, livesWith}
 use Rattle.table.proofs.Canon.{canonical}
 use Rattle.table.proofs.Chain.{Chain}
 use Rattle.table.proofs.Literal.{chain-of}
-use Rattle.table.proofs.TilingLaws.{nothing, entries-at, below-end}
+use Rattle.table.proofs.LivesLaws.{lives-append}
+use Rattle.table.proofs.TilingLaws.{ends-below, ends-fit}
 use Rattle.table.specs.Fill.{lives, gap, tail, fill, lastEnd, endOf}
 
 -- ---- what closes, as the code finds it
@@ -147,13 +146,8 @@ module _ {P E n i j : ℕ} {w : List ℕ} (h : PlanFits P E n i j w) where
 
   -- ---- sums
 
-  ends-below : (k : ℕ) → k < n → behind (entryAt w k) ≤ E
-  ends-below k l =
-      let e : getD (entries w 0 n) k nothing ≡ entryAt w k = entries-at w 0 n k l ∙ ap (entryAt w) (zero-add k) in
-      rw e at (below-end (h .rules .tiling) k (rw length-entries l))
-
-  pub ends-fit : EndsFit w i
-  ends-fit k l = omega (arith, ends-below k (omega (arith, h .low, h .high)), page-pos (h .page), h .file)
+  pub plan-ends-fit : EndsFit w i
+  plan-ends-fit k l = ends-fit w (h .rules .tiling) (omega (arith, page-pos (h .page), h .file)) k (omega (arith, h .low, h .high))
 
   former-below : (k : ℕ) → k ≤ n → formerOf w k .end ≤ E
   unfolding formerOf
@@ -161,7 +155,7 @@ module _ {P E n i j : ℕ} {w : List ℕ} (h : PlanFits P E n i j w) where
   former-below (suc k) l = go (entryAt w k .status) (former-below k (omega arith))
     where
       go : (s : Status) → formerOf w k .end ≤ E → formerStep k (entryAt w k) s (formerOf w k) .end ≤ E
-      go (Live c) r = ends-below k (omega arith)
+      go (Live c) r = ends-below w (h .rules .tiling) k (omega arith)
       go (Free c) r = r
 
   pub former-sum : f .end + P ≤ 2 ^ 64

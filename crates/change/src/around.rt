@@ -2,8 +2,7 @@
 ghost use mathlib.Core.Path.{_≡_};
 ghost use Prim.Native.Nat.{_-_, _*_, _≤_};
 ghost use lib.ListN.{length};
-ghost use Rattle.pieces.specs.Words.{entryWords};
-ghost use Rattle.choose.specs.Place.{EndsFit};
+ghost use Rattle.pieces.specs.Words.{entryWords, EndsFit};
 ghost use Rattle.change.specs.Change.{formerOf, nextOf};
 use pieces::Class;
 use pieces::Status;

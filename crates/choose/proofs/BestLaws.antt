@@ -1,6 +1,6 @@
 -- The walk finds the best place: the statements `BestPlace`, `SmallPlace` and `LargePlace` of specs/Choose.antt.
 --
--- In this order: entries that tile lie in order, and an address names one of them; entries read out of words; two best places are one;
+-- In this order: entries that tile lie in order, and an address names one of them; two best places are one;
 -- what the walk holds is kept or beaten, and comes from an entry that fits, as `best-found`; `best-place`; what fits, spelled out; `small-place` and
 -- `large-place`.
 --
@@ -9,7 +9,7 @@ use mathlib.Core.Path.{_≡_, refl, sym, ap, _∙_}
 use mathlib.Core.Bool.{Bool, true, false, cond, _&&_}
 use mathlib.Core.List.{List, [], _∷_, List·Memᴰ, List·Memᴰ·head, List·Memᴰ·tail}
 use Prim.Native.Nat.{ℕ, suc, _+_, _≤_, _<_}
-use native.Mathlib.Nat.{add-zero, le-antisymm}
+use native.Mathlib.Nat.{le-antisymm}
 use native.Mathlib.Omega.{arith}
 use lib.Dec.{ltb}
 use borrow.Author.Tests.{ltb-true, ltb-false, leb-true, le-leb}
@@ -22,7 +22,8 @@ use Rattle.pieces.specs.declared.Status.{Status}
 use Rattle.pieces.specs.declared.Status.the-variants.{Live, Free}
 use Rattle.pieces.specs.declared.Piece.{Piece}
 use Rattle.pieces.specs.Pieces.{piece, behind, freeOf, Small, EntryIs, entry-here, entry-later}
-use Rattle.pieces.specs.Words.{entryAt, entries}
+pub use Rattle.pieces.proofs.PieceLaws.{entry-among}
+pub use Rattle.pieces.proofs.WordLaws.{entry-read}
 use Rattle.pieces.proofs.PieceLaws.{same-class, class-same}
 use Rattle.table.specs.Sound.{Tiles, tile}
 use Rattle.choose.specs.declared.Chosen.{Chosen}
@@ -32,10 +33,6 @@ use Rattle.choose.specs.Choose.{Best, OneBest, NoneEmpty, BestPlace, Fit
 use Rattle.choose.proofs.ChooseLaws.{room-small}
 
 -- ---- entries that tile
-
-pub entry-among : {es : List Piece} {i : ℕ} {x : Piece} → EntryIs es i x → List·Memᴰ x es
-entry-among entry-here = List·Memᴰ·head refl
-entry-among (entry-later e) = List·Memᴰ·tail (entry-among e)
 
 entry-above : {E a : ℕ} {es : List Piece} {i : ℕ} {x : Piece} → Tiles E a es → EntryIs es i x → a ≤ x .address
 entry-above (tile r) entry-here = omega arith
@@ -54,15 +51,6 @@ one-entry f (tile r) (entry-later p) (entry-later q) e =
     next-one : Chosen → Chosen
     next-one (At i x) = At (suc i) x
     next-one Nothing = Nothing
-
--- the entries that a walk over words meets
-pub entry-read : (w : List ℕ) (j n : ℕ) {i : ℕ} {x : Piece} → EntryIs (entries w j n) i x → (i < n) × (x ≡ entryAt w (j + i))
-unfolding entries
-entry-read w j (suc n) entry-here = (omega arith, rw add-zero)
-entry-read w j (suc n) (entry-later {i = i} e) =
-    let h = entry-read w (suc j) n e in
-    let k : j + suc i ≡ suc j + i = omega arith in
-    (omega (arith, h .0), rw k (h .1))
 
 -- ---- two best places are one
 

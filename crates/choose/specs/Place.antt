@@ -6,17 +6,15 @@
 --   inLarge, inSmall      the place in the entry that was found, if one was
 --   asPage q              the same place, found as a page for a small piece
 --   placeAddress E q       the address of the place q, in a file that ends at E
---   EndsFit w n           the first n entries of w end where a number of 64 bits can say it, as in every sound table
 --
 -- Assumes nothing. What the best section is, is said twice in Choose.antt.
-use Prim.Native.Nat.{ℕ, _<_, _^_}
+use Prim.Native.Nat.{ℕ}
 use mathlib.Core.List.{List}
 use Rattle.pages.specs.Pages.{up}
 use Rattle.pieces.specs.declared.Class.{Class}
 use Rattle.pieces.specs.declared.Class.the-variants.{SmallMetadata, SmallRaw, Large}
 use Rattle.pieces.specs.declared.Piece.{Piece}
-use Rattle.pieces.specs.Pieces.{behind}
-use Rattle.pieces.specs.Words.{entryAt}
+pub use Rattle.pieces.specs.Words.{EndsFit}
 use Rattle.choose.specs.Choose.{fitsIn, best}
 use Rattle.choose.specs.declared.Chosen.{Chosen}
 use Rattle.choose.specs.declared.Chosen.the-variants.{At, Nothing}
@@ -51,6 +49,3 @@ abbrev pub placeAddress : ℕ → Place → ℕ
 placeAddress E (Section i b) = b
 placeAddress E (Page i b) = b
 placeAddress E End = E
-
-abbrev pub EndsFit : List ℕ → ℕ → Type 0
-EndsFit w n = (i : ℕ) → i < n → behind (entryAt w i) < 2 ^ 64

@@ -2,8 +2,8 @@
 ghost use mathlib.Core.Path.{_≡_};
 ghost use Prim.Native.Nat.{_*_, _≤_, _<_};
 ghost use lib.ListN.{length};
-ghost use Rattle.pieces.specs.Words.{entryWords, entries};
-ghost use Rattle.choose.specs.Place.{EndsFit, asPage, largePlaceFor, smallPlaceFor, placeFor};
+ghost use Rattle.pieces.specs.Words.{entryWords, entries, EndsFit};
+ghost use Rattle.choose.specs.Place.{asPage, largePlaceFor, smallPlaceFor, placeFor};
 use crate::Chosen;
 use crate::best_place;
 use pieces::Class;

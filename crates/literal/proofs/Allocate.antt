@@ -28,11 +28,11 @@ use Rattle.pieces.specs.declared.Class.{Class}
 use Rattle.pieces.specs.declared.Piece.{Piece}
 use Rattle.pieces.specs.declared.Status.the-variants.{Live, Free}
 use Rattle.pieces.specs.declared.Status.{Status}
-use Rattle.rules.proofs.SpliceLaws.{lives-append, insert-at}
+use Rattle.rules.proofs.SpliceLaws.{insert-at}
 use Rattle.rules.specs.Editing.{insert}
 use Rattle.table.proofs.Canon.{canonical}
 use Rattle.table.proofs.Chain.{Chain}
-use Rattle.table.proofs.ChainLaws.{lives-free}
+use Rattle.table.proofs.LivesLaws.{lives-free-append, lives-append}
 use Rattle.table.proofs.Literal.{rules-of}
 use Rattle.table.specs.Fill.{lives, free, Good}
 use Rattle.literal.specs.Statements.{Request, FileOf, AllocatingIn}
@@ -52,8 +52,8 @@ lives-large : (b q : ℕ) (new : List Piece) (x p : Piece) (ys : List Piece) →
     → lives (intoLarge b q new x ++ ys) ≡ p ∷ lives ys
 unfolding intoLarge
 lives-large b q new x p ys h =
-    rw (append-assoc, append-assoc, lives-free)
-    (h (free Large (b + q) (behind x) ++ ys) ∙ ap (λ (l : List Piece). p ∷ l) (lives-free Large (b + q) (behind x) ys))
+    rw (append-assoc, append-assoc, lives-free-append)
+    (h (free Large (b + q) (behind x) ++ ys) ∙ ap (λ (l : List Piece). p ∷ l) (lives-free-append Large (b + q) (behind x) ys))
 
 lives-large-piece : (s b : ℕ) (ys : List Piece) → lives (largePiece s b ++ ys) ≡ piece b s (Live Large) ∷ lives ys
 unfolding largePiece lives
@@ -61,11 +61,11 @@ lives-large-piece s b ys = refl
 
 lives-small-page : (P : ℕ) (k : Class) (s b : ℕ) (ys : List Piece) → lives (smallPage P k s b ++ ys) ≡ piece b s (Live k) ∷ lives ys
 unfolding smallPage lives
-lives-small-page P k s b ys = rw lives-free
+lives-small-page P k s b ys = rw lives-free-append
 
 lives-into-small : (k : Class) (s : ℕ) (x : Piece) (ys : List Piece) → lives (intoSmall k s x ++ ys) ≡ piece (x .address) s (Live k) ∷ lives ys
 unfolding intoSmall lives
-lives-into-small k s x ys = rw lives-free
+lives-into-small k s x ys = rw lives-free-append
 
 -- one free entry is replaced by entries with one live piece
 replaced : {P E a z : ℕ} {c : Class} {es : List Piece} {i : ℕ} (f : Piece → List Piece) (p : Piece) → 0 < P → Chain P E es

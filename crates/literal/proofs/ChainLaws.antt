@@ -16,10 +16,10 @@ use Rattle.pieces.specs.declared.Class.{Class}
 use Rattle.pieces.specs.declared.Piece.{Piece}
 use Rattle.pieces.specs.declared.Status.the-variants.{Live, Free}
 use Rattle.pieces.specs.declared.Status.{Status}
-use Rattle.rules.proofs.SpliceLaws.{lives-append}
 use Rattle.table.proofs.Canon.{canonical}
 use Rattle.table.proofs.Chain.{Entry, ChainFrom, stop, step, Chain}
-use Rattle.table.proofs.ChainLaws.{chain-le, lives-free}
+use Rattle.table.proofs.ChainLaws.{chain-le}
+use Rattle.table.proofs.LivesLaws.{lives-free-append, lives-append}
 use Rattle.table.specs.Fill.{lives, free, Within}
 use Rattle.literal.specs.Statements.{FileOf}
 
@@ -126,7 +126,7 @@ upto-chain {ys = ys} (add u e) r h = upto-chain u (step (entry-before ys e (λ x
 
 pub lives-only-free : (c : Class) (a b : ℕ) → lives (free c a b) ≡ []
 unfolding lives
-lives-only-free c a b = ap lives (sym (append-nil (free c a b))) ∙ lives-free c a b []
+lives-only-free c a b = ap lives (sym (append-nil (free c a b))) ∙ lives-free-append c a b []
 
 pub lives-around : (ls ys : List Piece) → lives (reverseAux ls ys) ≡ lives (reverse ls) ++ lives ys
 lives-around ls ys = ap lives (reverseAux-eq ls ys) ∙ lives-append (reverse ls) ys

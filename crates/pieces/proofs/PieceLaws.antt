@@ -5,7 +5,7 @@
 -- Assumes nothing.
 use Prim.Native.Nat.{ℕ, zero, suc, _≤_, _<_}
 use mathlib.Core.Bool.{true, false}
-use mathlib.Core.List.{List, _∷_, _++_}
+use mathlib.Core.List.{List, _∷_, _++_, List·Memᴰ, List·Memᴰ·head, List·Memᴰ·tail}
 use mathlib.Core.Path.{_≡_, refl, sym, ap}
 use native.Mathlib.Omega.{arith}
 use lib.Dec.{leb}
@@ -107,6 +107,10 @@ kind-status (suc (suc (suc (suc (suc (suc (suc k))))))) h = absurd (omega (arith
 pub entry-lt : {es : List Piece} {i : ℕ} {x : Piece} → EntryIs es i x → i < length es
 entry-lt entry-here = omega arith
 entry-lt (entry-later e) = omega (arith, entry-lt e)
+
+pub entry-among : {es : List Piece} {i : ℕ} {x : Piece} → EntryIs es i x → List·Memᴰ x es
+entry-among entry-here = List·Memᴰ·head refl
+entry-among (entry-later e) = List·Memᴰ·tail (entry-among e)
 
 pub entry-split : {es : List Piece} {i : ℕ} {x : Piece} → EntryIs es i x → es ≡ take i es ++ (x ∷ drop (suc i) es)
 entry-split entry-here = refl

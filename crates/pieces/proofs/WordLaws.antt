@@ -1,6 +1,6 @@
 -- Laws of the lent words. Only this file and the proofs of `pieces` know what entryWords is: other proofs cite these laws.
 --
--- In this order: lengths; the next entry of a walk; words, taken, dropped and appended; the two round trips `entries-of-table` and
+-- In this order: lengths; the next entry of a walk; the entries in parts; words, taken, dropped and appended; the two round trips `entries-of-table` and
 -- `table-of-entries`; what a table holds; pieces laid one after the other.
 --
 -- Not here: laws of lists (lib.ListN, lib.Seq). Assumes nothing.
@@ -10,10 +10,11 @@ use mathlib.Core.Path.{_≡_, refl, sym, ap, _∙_}
 use native.Mathlib.Nat.{add-zero, zero-add}
 use native.Mathlib.Numerals.{add-one, add-two}
 use native.Mathlib.Omega.{arith}
-use lib.ListN.{length, getD, take, drop, set, replicate, length-append, length-replicate, length-take, length-drop, take-append-drop, getD-replicate}
+use lib.ListN.{length, getD, take, drop, set, replicate}
+use lib.ListN.{length-append, length-replicate, length-take, length-drop, take-append-drop, getD-replicate}
 use lib.Seq.{drop-cons, ext-getD, getD-drop, take-at, drop-at, drop-drop, sets-eq, length-take-le, take-suc, getD-append-add}
 use Rattle.pieces.proofs.PieceLaws.{status-kind, kind-status}
-use Rattle.pieces.specs.Pieces.{kindOf, Kind}
+use Rattle.pieces.specs.Pieces.{kindOf, Kind, EntryIs, entry-here, entry-later}
 use Rattle.pieces.specs.Words.{entryWords, kindAt, wordsAt, pieceOf, entryAt, entries, words, table, laid, Zeros, EntriesOfTable, TableOfEntries}
 use Rattle.pieces.specs.declared.Class.the-variants.{SmallMetadata, SmallRaw, Large}
 use Rattle.pieces.specs.declared.Piece.{Piece}
@@ -54,6 +55,20 @@ pub entries-none : (w : List ℕ) (n i : ℕ) → n ≤ i → entries w i (n - i
 unfolding entries
 entries-none w n i h = let e : n - i ≡ 0 = omega arith in rw e
 
+-- the entries that a walk over words meets
+pub entry-read : (w : List ℕ) (j n : ℕ) {i : ℕ} {x : Piece} → EntryIs (entries w j n) i x → (i < n) × (x ≡ entryAt w (j + i))
+unfolding entries
+entry-read w j (suc n) entry-here = (omega arith, rw add-zero)
+entry-read w j (suc n) (entry-later {i = i} e) =
+    let h = entry-read w (suc j) n e in
+    let k : j + suc i ≡ suc j + i = omega arith in
+    (omega (arith, h .0), rw k (h .1))
+
+pub entry-is : (w : List ℕ) (n : ℕ) {i : ℕ} {x : Piece} → EntryIs (entries w 0 n) i x → (i < n) × (x ≡ entryAt w i)
+entry-is w n {i} e = let r = entry-read w 0 n e in (r .0, r .1 ∙ ap (entryAt w) (zero-add i))
+
+-- ---- the entries in parts
+
 pub entries-append : (w : List ℕ) (i j k : ℕ) → entries w i (j + k) ≡ entries w i j ++ entries w (i + j) k
 unfolding entries
 entries-append w i zero k = simp (zero-add, add-zero)
@@ -61,6 +76,30 @@ entries-append w i (suc j) k =
     let e : suc j + k ≡ suc (j + k) = omega arith in
     let f : i + suc j ≡ suc i + j = omega arith in
     rw (e, f, entries-append w (suc i) j k)
+
+pub entries-parts : (w : List ℕ) (i j n : ℕ) → i ≤ j → j ≤ n → entries w 0 n ≡ entries w 0 i ++ (entries w i (j - i) ++ entries w j (n - j))
+entries-parts w i j n l m =
+    let e : n ≡ i + ((j - i) + (n - j)) = omega arith in
+    let f : i + (j - i) ≡ j = omega arith in
+    ap (entries w 0) e
+    ∙ (entries-append w 0 i ((j - i) + (n - j))
+    ∙ (rw zero-add (ap (λ (l : List Piece). entries w 0 i ++ l) (entries-append w i (j - i) (n - j) ∙ rw f))))
+
+pub entries-halves : (w : List ℕ) (i n : ℕ) → i ≤ n → entries w 0 n ≡ entries w 0 i ++ entries w i (n - i)
+unfolding entries
+entries-halves w i n l = let z : i - i ≡ 0 = omega arith in entries-parts w i i n (omega arith) l ∙ rw z
+
+pub entries-snoc : (w : List ℕ) (i : ℕ) → entries w 0 (suc i) ≡ entries w 0 i ++ (entryAt w i ∷ [])
+unfolding entries
+entries-snoc w i =
+    let e : suc i ≡ i + 1 = omega arith in
+    ap (entries w 0) e ∙ (entries-append w 0 i 1 ∙ rw zero-add)
+
+pub take-entries : (w : List ℕ) (i n : ℕ) → i ≤ n → take i (entries w 0 n) ≡ entries w 0 i
+take-entries w i n l = rw (entries-halves w i n l) (take-at (entries w 0 i) (entries w i (n - i)) i (length-entries w 0 i))
+
+pub drop-entries : (w : List ℕ) (i n : ℕ) → i ≤ n → drop i (entries w 0 n) ≡ entries w i (n - i)
+drop-entries w i n l = rw (entries-halves w i n l) (drop-at (entries w 0 i) (entries w i (n - i)) i (length-entries w 0 i))
 
 -- ---- words of a part
 

@@ -10,6 +10,7 @@
 --   table len es         the table of len words that holds the entries es: their words, then zeros
 --   laid w i es          the words w with the entries es in place of those from entry i on
 --   Zeros w n            every word of w after the first n entries is 0
+--   EndsFit w n          the first n entries of w end where a number of 64 bits can say it, as in every sound table
 --
 -- What is proved of them (proofs/WordLaws.antt):
 --
@@ -19,11 +20,11 @@
 -- Assumes nothing.
 use mathlib.Core.Path.{_≡_}
 use mathlib.Core.List.{List, [], _∷_, _++_}
-use Prim.Native.Nat.{ℕ, zero, suc, _+_, _-_, _*_, _≤_, _<_}
+use Prim.Native.Nat.{ℕ, zero, suc, _+_, _-_, _*_, _^_, _≤_, _<_}
 use lib.ListN.{length, getD, take, drop, replicate}
 use Rattle.pieces.specs.declared.Piece.{Piece}
 use Rattle.pieces.specs.declared.Words.{Words}
-use Rattle.pieces.specs.Pieces.{piece, kindOf, Kind, statusOf}
+use Rattle.pieces.specs.Pieces.{piece, behind, kindOf, Kind, statusOf}
 
 abbrev pub entryWords : ℕ
 entryWords = 3
@@ -62,6 +63,9 @@ laid w i es = take (i * entryWords) w ++ (words es ++ drop ((i + length es) * en
 
 abbrev pub Zeros : List ℕ → ℕ → Type 0
 Zeros w n = (i : ℕ) → n * entryWords ≤ i → i < length w → getD w i 0 ≡ 0
+
+abbrev pub EndsFit : List ℕ → ℕ → Type 0
+EndsFit w n = (i : ℕ) → i < n → behind (entryAt w i) < 2 ^ 64
 
 -- ---- what is proved
 

@@ -25,7 +25,8 @@ use Rattle.rules.specs.Editing.{Name, names, insert, remove, resize}
 use Rattle.table.proofs.Canon.{canon, Widen, widened}
 use Rattle.table.proofs.Chain.{ChainFrom, step, Chain}
 use Rattle.table.proofs.GapLaws.{gap-here, apart-le}
-use Rattle.table.specs.Fill.{lives, consLive, free, gap, fillFrom, fill, lastEnd, GoodFrom, none, next}
+pub use Rattle.table.proofs.LivesLaws.{lives-append}
+use Rattle.table.specs.Fill.{lives, free, gap, fillFrom, fill, lastEnd, GoodFrom, none, next}
 
 pub fill-append : (P : ℕ) (k : Class) (a : ℕ) (ps qs : List Piece)
     → fillFrom P k a (ps ++ qs) ≡ frontFrom P k a ps ++ fillFrom P (lastClass k ps) (lastEnd a ps) qs
@@ -44,15 +45,6 @@ pub data EndsLive : List Piece → Type 0 where
 pub data StartsLive : List Piece → Type 0 where
   starts-none : StartsLive []
   starts-live : {b n : ℕ} {m : Class} {es : List Piece} → StartsLive (piece b n (Live m) ∷ es)
-
-pub lives-append : (xs ys : List Piece) → lives (xs ++ ys) ≡ lives xs ++ lives ys
-unfolding lives
-lives-append [] ys = refl
-lives-append (x ∷ xs) ys = go (x .status) (lives-append xs ys)
-  where
-    go : (t : Status) → lives (xs ++ ys) ≡ lives xs ++ lives ys → consLive x t (lives (xs ++ ys)) ≡ consLive x t (lives xs) ++ lives ys
-    go (Live c) e = ap (λ (l : List Piece). x ∷ l) e
-    go (Free c) e = e
 
 -- the first live piece
 record First (ps : List Piece) : Type 0 where

@@ -20,16 +20,17 @@ use Rattle.pieces.specs.declared.Piece.{Piece}
 use Rattle.pieces.specs.declared.Status.the-variants.{Live, Free}
 use Rattle.pieces.specs.declared.Status.{Status}
 use Rattle.table.proofs.Chain.{Entry, ChainFrom, stop, step, Chain}
-use Rattle.table.proofs.ChainLaws.{entry-live, free-chain, lives-free}
+use Rattle.table.proofs.ChainLaws.{entry-live, free-chain}
 use Rattle.table.proofs.GapLaws.{lo-small, lo-large, hi-small, hi-large, gap-is, apart-le}
+use Rattle.table.proofs.LivesLaws.{lives-free-append}
 use Rattle.table.specs.Fill.{lives, free, lo, hi, gap, tail, fillFrom, fill, lastEnd, endOf, Within, Apart, border-between, one-family, GoodFrom, none, next, Good}
 
 lives-gap : (P : ℕ) (k : Class) (a b : ℕ) (m : Class) (es : List Piece) → lives (gap P k a b m ++ es) ≡ lives es
-lives-gap P k a b m es = rw (gap-is P k a b m refl refl) (simp (append-assoc, lives-free))
+lives-gap P k a b m es = rw (gap-is P k a b m refl refl) (simp (append-assoc, lives-free-append))
 
 pub lives-fill : {P : ℕ} {k : Class} {a : ℕ} {ps : List Piece} → GoodFrom P k a ps → lives (fillFrom P k a ps) ≡ ps
 unfolding lives fillFrom
-lives-fill {P} {k} {a} none = rw (← (append-nil (tail P k a))) (lives-free k a (up P a) [])
+lives-fill {P} {k} {a} none = rw (← (append-nil (tail P k a))) (lives-free-append k a (up P a) [])
 lives-fill {P} {k} {a} (next {m = m} {b = b} {z = n} {ps = ps} d w g) =
     lives-gap P k a b m (piece b n (Live m) ∷ fillFrom P m (b + n) ps) ∙ rw (lives-fill g)
 

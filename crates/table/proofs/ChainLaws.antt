@@ -3,7 +3,6 @@
 --   entry-live          what a live entry of a chain has to show
 --   free-chain          a free entry before a chain, if there is a byte for it
 --   chain-le, chain-border-end     a chain starts at or below its end, and ends at a border
---   lives-free          a free entry is not live
 --
 -- Assumes nothing.
 use Prim.Native.Nat.{ℕ, _+_, _-_, _≤_, _<_}
@@ -20,7 +19,7 @@ use Rattle.pieces.specs.declared.Status.the-variants.{Live, Free}
 use Rattle.pieces.specs.declared.Status.{Status}
 use Rattle.table.proofs.Chain.{Entry, ChainFrom, stop, step}
 use Rattle.table.proofs.GapLaws.{free-none, free-cons}
-use Rattle.table.specs.Fill.{lives, free, Whole}
+use Rattle.table.specs.Fill.{free, Whole}
 
 pub entry-live : {P : ℕ} {s : Status} {a z : ℕ} {k : Class} {es : List Piece} → Whole P k a z → (¬ Border P a → classOf s ≡ k)
     → Entry P s a z (Live k) es
@@ -50,7 +49,3 @@ chain-le (step e r) = omega (arith, chain-le r)
 pub chain-border-end : {P E : ℕ} {s : Status} {a : ℕ} {es : List Piece} → ChainFrom P E s a es → Border P E
 chain-border-end (stop q b) = rw q at b
 chain-border-end (step e r) = chain-border-end r
-
-pub lives-free : (c : Class) (a b : ℕ) (es : List Piece) → lives (free c a b ++ es) ≡ lives es
-unfolding lives
-lives-free c a b es = split b a (λ h. rw (free-none c a b h)) (λ h. rw (free-cons c a b h))

@@ -7,9 +7,9 @@ use Prim.Native.Nat.{ℕ, _*_, _≤_, _<_}
 use mathlib.Core.Bool.{Bool, true, _&&_}
 use mathlib.Core.List.{List, []}
 use mathlib.Core.Path.{_≡_, sym, ap, _∙_, subst⁻¹}
-use native.Mathlib.Nat.{div-mul-le-self, mul-le-mul-right, le-trans, zero-add}
+use native.Mathlib.Nat.{div-mul-le-self, mul-le-mul-right, le-trans}
 use native.Mathlib.Omega.{arith}
-use lib.ListN.{length, getD, drop}
+use lib.ListN.{length, drop}
 use Rattle.pages.proofs.Numbers.{and-left, and-right, both}
 use Rattle.pages.proofs.PageLaws.{page-pos}
 use Rattle.pieces.proofs.WordLaws.{length-entries, entries-of-table, table-of-entries, zeros-of-table, kinds-of-table}
@@ -23,7 +23,7 @@ use Rattle.table.proofs.Canon.{canonical}
 use Rattle.table.proofs.Chain.{Chain}
 use Rattle.table.proofs.Literal.{rules-of, chain-of, no-entry, no-byte}
 use Rattle.table.proofs.LocalLaws.{chain-true, true-chain, ranges-true, true-ranges, kinds-true, true-kinds, zeros-true, true-zeros}
-use Rattle.table.proofs.TilingLaws.{nothing, entries-at, covered, below-end, alone}
+use Rattle.table.proofs.TilingLaws.{entry-at, covered, ends-below, alone}
 use Rattle.table.specs.Fill.{lives, fill, endOf, Good}
 use Rattle.table.specs.Local.{rangesb, kindsb, zerosb, chainb, localb}
 use Rattle.table.specs.Sound.{Ranges, Sound}
@@ -137,9 +137,6 @@ one-table P M E n w M' E' n' w' s s' len same =
 
 -- ---- tiling
 
-entry-at : (w : List ℕ) (n i : ℕ) → i < n → getD (entries w 0 n) i nothing ≡ entryAt w i
-entry-at w n i h = entries-at w 0 n i h ∙ ap (entryAt w) (zero-add i)
-
 pub tiling : Tiling
 tiling P M E n w s = (one, below)
   where
@@ -156,6 +153,4 @@ tiling P M E n w s = (one, below)
         }
 
     below : (i v : ℕ) → i < n → Holds (entryAt w i) v → v < E
-    below i v m u =
-        let l : i < length (entries w 0 n) = rw length-entries m in
-        omega (arith, u .to, rw (entry-at w n i m) at (below-end (s .rules .tiling) i l))
+    below i v m u = omega (arith, u .to, ends-below w (s .rules .tiling) i m)

@@ -3,16 +3,26 @@
 --   covered       a byte from the first entry's start to the end lies in one of the entries, and its place among them
 --   in-order      an entry further on starts where an earlier one ends, or behind it
 --   below-end     no entry reaches beyond the end
+--   alone         no other entry holds a byte of an entry
+--
+-- The same of the first n entries of words w, by `entryAt`:
+--
+--   entry-at      entry k of the list that is read out of words
+--   rising        an entry further on starts where an earlier one ends, or behind it; `next-above` of the next one
+--   ends-below    no entry reaches beyond the end
+--   ends-fit      so each ends at a number of 64 bits, if the end is one
 --
 -- Assumes nothing.
-use Prim.Native.Nat.{ℕ, zero, suc, _+_, _≤_, _<_}
+use Prim.Native.Nat.{ℕ, zero, suc, _+_, _^_, _≤_, _<_}
 use mathlib.Core.List.{List, _∷_}
-use mathlib.Core.Path.{_≡_}
+use mathlib.Core.Path.{_≡_, ap, _∙_}
+use native.Mathlib.Nat.{zero-add}
 use native.Mathlib.Omega.{arith}
 use lib.ListN.{length, getD}
 use Rattle.pages.proofs.Numbers.{split}
 use Rattle.pieces.specs.Pieces.{piece, behind}
-use Rattle.pieces.specs.Words.{entryAt, entries}
+use Rattle.pieces.proofs.WordLaws.{length-entries}
+use Rattle.pieces.specs.Words.{entryAt, entries, EndsFit}
 use Rattle.pieces.specs.declared.Class.the-variants.{Large}
 use Rattle.pieces.specs.declared.Piece.{Piece}
 use Rattle.pieces.specs.declared.Status.the-variants.{Free}
@@ -52,7 +62,8 @@ starts (tiled e) i h = absurd (omega arith)
 starts (tile r) zero h = omega arith
 starts (tile r) (suc i) h = omega (arith, starts r i (omega arith))
 
-pub in-order : {E a : ℕ} {es : List Piece} → Tiles E a es → (i j : ℕ) → i < j → j < length es → behind (getD es i nothing) ≤ getD es j nothing .address
+pub in-order : {E a : ℕ} {es : List Piece} → Tiles E a es → (i j : ℕ) → i < j → j < length es
+    → behind (getD es i nothing) ≤ getD es j nothing .address
 in-order (tiled e) i j l h = absurd (omega arith)
 in-order (tile r) zero zero l h = absurd (omega arith)
 in-order (tile r) zero (suc j) l h = starts r j (omega arith)
@@ -70,3 +81,20 @@ alone t i j v hi hj u r =
     split i j
     (λ l. split j i (λ m. omega arith) (λ m. absurd (omega (arith, in-order t i j m hj, u .to, r .from))))
     (λ l. absurd (omega (arith, in-order t j i l hi, r .to, u .from)))
+
+-- ---- the entries of words
+
+pub entry-at : (w : List ℕ) (n k : ℕ) → k < n → getD (entries w 0 n) k nothing ≡ entryAt w k
+entry-at w n k h = entries-at w 0 n k h ∙ ap (entryAt w) (zero-add k)
+
+pub rising : {E n : ℕ} (w : List ℕ) → Tiles E 0 (entries w 0 n) → (i k : ℕ) → i < k → k < n → behind (entryAt w i) ≤ entryAt w k .address
+rising {n = n} w t i k l h = rw (entry-at w n i (omega arith), entry-at w n k h) at (in-order t i k l (rw length-entries h))
+
+pub next-above : {E n : ℕ} (w : List ℕ) → Tiles E 0 (entries w 0 n) → (i : ℕ) → i + 1 < n → behind (entryAt w i) ≤ entryAt w (i + 1) .address
+next-above w t i h = rising w t i (i + 1) (omega arith) h
+
+pub ends-below : {E n : ℕ} (w : List ℕ) → Tiles E 0 (entries w 0 n) → (k : ℕ) → k < n → behind (entryAt w k) ≤ E
+ends-below {n = n} w t k h = rw (entry-at w n k h) at (below-end t k (rw length-entries h))
+
+pub ends-fit : {E n : ℕ} (w : List ℕ) → Tiles E 0 (entries w 0 n) → E < 2 ^ 64 → EndsFit w n
+ends-fit w t small k h = omega (arith, ends-below w t k h)

@@ -2,14 +2,14 @@
 -- Assumes nothing.
 use native.Mathlib.Omega.{arith}
 use borrow.Author.Needs.{needs}
-use Rattle.change.proofs.PlanLaws.{ends-fit, found-sum, found-low, found-high, planned-with}
+use Rattle.change.proofs.PlanLaws.{plan-ends-fit, found-sum, found-low, found-high, planned-with}
 use Rattle.edit.proofs.FewLaws.{count-gap, count-more}
 use Rattle.pages.proofs.PageLaws.{page-pos}
 use Rattle.change.proofs.plan.with.Statement.{statement}
 use Rattle.change.proofs.plan.with.Tie as tie
 
 live-before-requires : tie.Need-live-before-requires
-live-before-requires c κs = let h = c .before .pre .0 in (omega (arith, h .low, h .high, h .room), ends-fit h)
+live-before-requires c κs = let h = c .before .pre .0 in (omega (arith, h .low, h .high, h .room), plan-ends-fit h)
 
 live-from-requires : tie.Need-live-from-requires
 live-from-requires c κs = search needs
