@@ -28,7 +28,7 @@ use Rattle.pieces.specs.declared.Class.{Class}
 use Rattle.pieces.specs.declared.Piece.{Piece}
 use Rattle.pieces.specs.declared.Status.the-variants.{Live, Free}
 use Rattle.pieces.specs.declared.Status.{Status}
-use Rattle.rules.proofs.SpliceLaws.{insert-at}
+use Rattle.rules.proofs.InsertLaws.{insert-at}
 use Rattle.rules.specs.Editing.{insert}
 use Rattle.table.proofs.Canon.{canonical}
 use Rattle.table.proofs.Chain.{Chain}

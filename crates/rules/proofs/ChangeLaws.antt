@@ -8,7 +8,7 @@ use Prim.Native.Nat.{ℕ, _+_, _-_, _≤_, _<_}
 use mathlib.Core.List.{List, [], _∷_}
 use mathlib.Core.Path.{_≡_, refl}
 use native.Mathlib.Omega.{arith}
-use borrow.Author.Tests.{eq-eqb, ne-eqb, lt-ltb, le-ltb}
+use borrow.Author.Tests.{eq-eqb, ne-eqb}
 use Rattle.pages.proofs.PageLaws.{decBorder, up-of, up-least, up-mono}
 use Rattle.pages.specs.Pages.{up, Border}
 use Rattle.pieces.specs.Pieces.{piece, classOf, Small}
@@ -17,11 +17,11 @@ use Rattle.pieces.specs.declared.Class.{Class}
 use Rattle.pieces.specs.declared.Piece.{Piece}
 use Rattle.pieces.specs.declared.Status.the-variants.{Live, Free}
 use Rattle.pieces.specs.declared.Status.{Status}
+use Rattle.rules.proofs.InsertLaws.{insert-first, insert-later, above-good}
 use Rattle.rules.specs.Editing.{insert, resize}
 use Rattle.table.proofs.Build.{large-apart}
 use Rattle.table.proofs.Canon.{canon, live-apart, live-whole, apart-widen}
 use Rattle.table.proofs.Chain.{ChainFrom, stop, step}
-use Rattle.table.proofs.GapLaws.{apart-le}
 use Rattle.table.specs.Fill.{lives, Whole, Apart, border-between, one-family, GoodFrom, none, next}
 
 module _ (P : ℕ) (pos : 0 < P) where
@@ -33,7 +33,7 @@ module _ (P : ℕ) (pos : 0 < P) where
       go (border-between h) = border-between (omega (arith, up-mono P pos l))
       go (one-family h s q) = one-family (omega arith) s q
 
-  -- behind free large bytes any piece may behind before them
+  -- what is good behind a free large entry is good behind any piece that ends before that entry does
   good-any : {c : Class} {e' e : ℕ} {ps : List Piece} → e' ≤ e → GoodFrom P Large e ps → GoodFrom P c e' ps
   good-any l none = none
   good-any {e' = e'} l (next {b = b} d w g) =
@@ -65,15 +65,6 @@ module _ (P : ℕ) (pos : 0 < P) where
   fits-from (step y r) (in-small s h) = omega arith
   fits-from (step y r) (beyond f) = omega (arith, fits-from r f)
 
-  insert-first : {c : Class} {e : ℕ} {ps : List Piece} (p : Piece) → p .address < e → GoodFrom P c e ps → insert p ps ≡ p ∷ ps
-  unfolding insert
-  insert-first p l none = refl
-  insert-first p l (next {b = b} d w g) = let h : p .address < b = omega (arith, apart-le P pos d) in simp (lt-ltb (p .address) b h)
-
-  insert-later : (p q : Piece) (ps : List Piece) → q .address ≤ p .address → insert p (q ∷ ps) ≡ q ∷ insert p ps
-  unfolding insert
-  insert-later p q ps l = simp (le-ltb (p .address) (q .address) l)
-
   pub insert-good : {E b z a : ℕ} {m : Class} {s : Status} {es : List Piece} → Whole P m b z → ChainFrom P E s a es → Fits E b z m es
       → GoodFrom P (classOf s) a (insert (piece b z (Live m)) (lives es))
   unfolding lives insert
@@ -82,11 +73,11 @@ module _ (P : ℕ) (pos : 0 < P) where
       next (border-between h) w none
   insert-good {b = b} {z = z} {m = m} {s = s} w (step {a = a} {n = n} y r) (in-large bo l h) =
       let g : GoodFrom P Large (a + n) _ = canon P pos r .good in
-      rw (insert-first (piece b z (Live m)) (omega (arith, w .some)) g)
+      rw (insert-first (piece b z (Live m)) (above-good P pos (omega (arith, w .some)) g))
       (next (border-between (up-least P pos bo l)) w (good-any h g))
   insert-good {b = b} {z = z} {m = m} {s = s} w (step {a = a} {n = n} y r) (in-small t h) =
       let g : GoodFrom P m (b + n) _ = canon P pos r .good in
-      rw (insert-first (piece b z (Live m)) (omega (arith, w .some)) g)
+      rw (insert-first (piece b z (Live m)) (above-good P pos (omega (arith, w .some)) g))
       (next (small-apart b t (y .family)) w (good-earlier (omega arith) g))
   insert-good {b = b} {z = z} {m = m} w (step {t = Live c} {a = a} {n = n} {es = es} y r) (beyond f) =
       rw (insert-later (piece b z (Live m)) (piece a n (Live c)) (lives es) (omega (arith, fits-from r f)))
@@ -95,7 +86,8 @@ module _ (P : ℕ) (pos : 0 < P) where
 
   -- ---- a live piece made shorter or longer
 
-  -- a piece named by b and n, of class m, has room for z bytes: fewer, or the free bytes of its class behind it, or the behind of the file
+  -- a piece named by b and n, of class m, has room for z bytes: it had as many, or has them with the free bytes of its class behind it, or
+  -- ends at the end of the file
   pub data Room (b n z : ℕ) (m : Class) : List Piece → Type 0 where
     less : {es : List Piece} → z ≤ n → Room b n z m (piece b n (Live m) ∷ es)
     last : Room b n z m (piece b n (Live m) ∷ [])

@@ -3,7 +3,7 @@
 --   fill-append               a table is the front of its first live pieces, and the rest
 --   EndsLive, StartsLive      the last entry, the first entry is live, or there is none
 --   splice                    new live pieces between two live entries change only what lies between
---   remove-at, resize-at, insert-at    an edit by its place among the live pieces
+--   remove-at, resize-at      an edit by its place among the live pieces
 --
 -- Assumes nothing.
 use Prim.Native.Nat.{ℕ, _+_, _-_, _≤_, _<_}
@@ -11,7 +11,7 @@ use mathlib.Core.Bool.{true, false}
 use mathlib.Core.List.{List, [], _∷_, _++_, append-assoc, append-nil}
 use mathlib.Core.Path.{_≡_, refl, sym, ap, _∙_}
 use native.Mathlib.Omega.{arith}
-use borrow.Author.Tests.{ne-eqb, lt-ltb, le-ltb}
+use borrow.Author.Tests.{ne-eqb}
 use Rattle.pages.specs.Pages.{up}
 use Rattle.pieces.specs.Pieces.{piece, behind, classOf}
 use Rattle.pieces.specs.declared.Class.the-variants.{Large}
@@ -19,9 +19,10 @@ use Rattle.pieces.specs.declared.Class.{Class}
 use Rattle.pieces.specs.declared.Piece.{Piece}
 use Rattle.pieces.specs.declared.Status.the-variants.{Live, Free}
 use Rattle.pieces.specs.declared.Status.{Status}
+use Rattle.rules.proofs.InsertLaws.{good-at}
 use Rattle.rules.proofs.RemoveLaws.{named-address}
 use Rattle.rules.specs.Between.{frontFrom, lastClass, closing}
-use Rattle.rules.specs.Editing.{Name, names, insert, remove, resize}
+use Rattle.rules.specs.Editing.{Name, names, remove, resize}
 use Rattle.table.proofs.Canon.{canon, Widen, widened}
 use Rattle.table.proofs.Chain.{ChainFrom, step, Chain}
 use Rattle.table.proofs.GapLaws.{gap-here, apart-le}
@@ -104,7 +105,7 @@ module _ (P : ℕ) (pos : 0 < P) where
   back-canon k a (starts-live {b = b} {n = n} {m = m}) (step y r) =
       ap (λ (l : List Piece). gap P k a b m ++ (piece b n (Live m) ∷ l)) (sym (canon P pos r .filled))
 
-  -- (d) new live pieces ps in place of those between xs and ys: only the entries between xs and ys change
+  -- new live pieces ps in place of those between xs and ys: only the entries between xs and ys change
   pub splice : {E : ℕ} (xs mid ys ps : List Piece) → EndsLive xs → StartsLive ys → Chain P E (xs ++ (mid ++ ys))
       → fill P (lives xs ++ (ps ++ lives ys))
       ≡ xs ++ (frontFrom P (lastClass Large (lives xs)) (lastEnd 0 (lives xs)) ps
@@ -119,10 +120,6 @@ module _ (P : ℕ) (pos : 0 < P) where
       fill-append P Large 0 (lives xs) (ps ++ lives ys) ∙ (rw c (ap (λ (l : List Piece). xs ++ l) (fill-append P k a ps (lives ys) ∙ rw b)))
 
   -- ---- the live pieces of a change, by its place
-
-  good-at : {k : Class} {a : ℕ} (ps : List Piece) (p : Piece) (qs : List Piece) → GoodFrom P k a (ps ++ (p ∷ qs)) → a ≤ p .address
-  good-at [] p qs (next d w g) = apart-le P pos d
-  good-at (x ∷ ps) p qs (next {z = n} d w g) = omega (arith, apart-le P pos d, good-at ps p qs g)
 
   other-name : (n : Name) (x : Piece) → (x .address ≡ n .address → ⊥) → names n x ≡ false
   other-name n x h = rw (ne-eqb (x .address) (n .address) h)
@@ -140,24 +137,13 @@ module _ (P : ℕ) (pos : 0 < P) where
   remove-at n [] p qs (next {b = b} d w g) e =
       rw e (remove-none n (omega (arith, named-address n p e, w .some)) g)
   remove-at n (x ∷ ps) p qs (next {b = b} {z = z} d w g) e =
-      let h : b < n .address = omega (arith, good-at ps p qs g, named-address n p e, w .some) in
+      let h : b < n .address = omega (arith, good-at P pos ps p qs g, named-address n p e, w .some) in
       rw (other-name n x (λ i. omega arith), remove-at n ps p qs g e)
 
-  pub resize-at : {k : Class} {a : ℕ} (n : Name) (z : ℕ) (ps : List Piece) (p : Piece) (qs : List Piece) → GoodFrom P k a (ps ++ (p ∷ qs)) → names n p ≡ true
-      → resize n z (ps ++ (p ∷ qs)) ≡ ps ++ (piece (p .address) z (p .status) ∷ qs)
+  pub resize-at : {k : Class} {a : ℕ} (n : Name) (z : ℕ) (ps : List Piece) (p : Piece) (qs : List Piece) → GoodFrom P k a (ps ++ (p ∷ qs))
+      → names n p ≡ true → resize n z (ps ++ (p ∷ qs)) ≡ ps ++ (piece (p .address) z (p .status) ∷ qs)
   unfolding resize
   resize-at n z [] p qs g e = rw e
   resize-at n z (x ∷ ps) p qs (next {b = b} d w g) e =
-      let h : b < n .address = omega (arith, good-at ps p qs g, named-address n p e, w .some) in
+      let h : b < n .address = omega (arith, good-at P pos ps p qs g, named-address n p e, w .some) in
       rw (other-name n x (λ i. omega arith), resize-at n z ps p qs g e)
-
-  -- here the pieces with the new one are good
-  pub insert-at : {k : Class} {a : ℕ} (ps : List Piece) (p : Piece) (qs : List Piece) → GoodFrom P k a (ps ++ (p ∷ qs)) → insert p (ps ++ qs) ≡ ps ++ (p ∷ qs)
-  unfolding insert
-  insert-at [] p qs (next {b = b} d w none) = refl
-  insert-at [] p qs (next {b = b} {z = z} d w (next {b = b'} d' w' g)) =
-      let h : b < b' = omega (arith, apart-le P pos d', w .some) in
-      rw (lt-ltb b b' h)
-  insert-at (x ∷ ps) p qs (next {b = b} {z = z} d w g) =
-      let h : b ≤ p .address = omega (arith, good-at ps p qs g) in
-      rw (le-ltb (p .address) b h, insert-at ps p qs g)

@@ -7,7 +7,7 @@
 --   remove n ps       ps without the piece of this name
 --   resize n z ps     ps with the piece of this name z bytes long
 --
--- Assumes nothing. Laws are in proofs/EditLaws.antt.
+-- Assumes nothing. Laws are in proofs/RemoveLaws.antt, proofs/InsertLaws.antt and proofs/ChangeLaws.antt.
 use mathlib.Core.Bool.{Bool, cond, _&&_}
 use mathlib.Core.List.{List, [], _∷_}
 use Prim.Native.Nat.{ℕ}
