@@ -94,25 +94,23 @@ former-is w (suc i) = go (entryAt w i .status) refl (former-is w i)
     go (Free c) e h = former-before w i c (formerOf w i) e h
 
 -- a turn of the walk down
+former-step : (w : List ℕ) (i : ℕ) (x : Piece) (t : Status) → 0 < i → x ≡ entryAt w (i - 1) → x .status ≡ t
+    → formerOf w i ≡ formerStep (i - 1) x t (formerOf w (i - 1))
+unfolding formerOf
+former-step w zero x t h is e = absurd (omega arith)
+former-step w (suc i) x t h is e =
+    let k : suc i - 1 ≡ i = omega arith in
+    rw (← e, is, k)
+
 pub former-live : (w : List ℕ) (i : ℕ) (x : Piece) (c : Class) → 0 < i → x ≡ entryAt w (i - 1) → x .status ≡ Live c
     → formerOf w i ≡ record { from = i; class = c; end = behind x }
-unfolding formerOf
-former-live w (suc i) x c h is e =
-    let k : suc i - 1 ≡ i = omega arith in
-    let q : x ≡ entryAt w i = is ∙ ap (entryAt w) k in
-    let s : entryAt w i .status ≡ Live c = sym (ap (λ (y : Piece). y .status) q) ∙ e in
-    ap (λ (t : Status). formerStep i (entryAt w i) t (formerOf w i)) s
-    ∙ ap (λ (y : Piece). record { from = suc i; class = c; end = behind y }) (sym q)
-former-live w zero x c h is e = absurd (omega arith)
+former-live w i x c h is e =
+    let k : suc (i - 1) ≡ i = omega arith in
+    former-step w i x (Live c) h is e ∙ ap (λ (j : ℕ). record { from = j; class = c; end = behind x }) k
 
-pub former-free : (w : List ℕ) (i : ℕ) (x : Piece) (c : Class) → 0 < i → x ≡ entryAt w (i - 1) → x .status ≡ Free c → formerOf w i ≡ formerOf w (i - 1)
-unfolding formerOf
-former-free w (suc i) x c h is e =
-    let k : suc i - 1 ≡ i = omega arith in
-    let q : x ≡ entryAt w i = is ∙ ap (entryAt w) k in
-    let s : entryAt w i .status ≡ Free c = sym (ap (λ (y : Piece). y .status) q) ∙ e in
-    ap (λ (t : Status). formerStep i (entryAt w i) t (formerOf w i)) s ∙ ap (formerOf w) (sym k)
-former-free w zero x c h is e = absurd (omega arith)
+pub former-free : (w : List ℕ) (i : ℕ) (x : Piece) (c : Class) → 0 < i → x ≡ entryAt w (i - 1) → x .status ≡ Free c
+    → formerOf w i ≡ formerOf w (i - 1)
+former-free w i x c h is e = former-step w i x (Free c) h is e
 
 -- ---- the next live piece
 

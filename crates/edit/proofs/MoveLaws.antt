@@ -14,7 +14,7 @@ use lib.ListN.{length, take, drop, getD, set, replicate, length-take, length-dro
 use lib.ListN.{take-append-drop, drop-of-length-le, replicate-append-replicate}
 use lib.Seq.{paste, paste-suc, take-paste, drop-paste, getD-drop, getD-take, take-suc, take-all, drop-cons, drop-drop, set-at}
 use lib.Seq.{append-snoc, length-take-le}
-use Rattle.edit.proofs.Lists.{drop-replicate, part-front}
+use Rattle.edit.proofs.SliceLaws.{drop-replicate, part-front}
 
 module _ (d : List ℕ) (to from len : ℕ) where
   -- what a copy downwards reads next is still as it was

@@ -1,4 +1,4 @@
--- The one way to change a table: a few new entries take the place of those between two entries that stay.
+-- A splice of a table: a few new entries take the place of those between two entries that stay.
 --
 --   gapPieces               the most entries of a gap
 --   mostPieces              the most pieces that one change puts in: two gaps, and a live piece between them

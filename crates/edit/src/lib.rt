@@ -1,4 +1,4 @@
-// The one way to change a table: a few new entries, made by value, take the place of those between two entries that stay.
+// A splice of a table: a few new entries, made by value, take the place of those between two entries that stay.
 pub mod few;
 mod gap;
 pub mod splice;

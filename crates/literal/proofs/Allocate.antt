@@ -17,8 +17,8 @@ use Rattle.choose.specs.declared.Chosen.the-variants.{At, Nothing}
 use Rattle.choose.specs.declared.Chosen.{Chosen}
 use Rattle.choose.specs.declared.place.Place.{Place}
 use Rattle.literal.proofs.AllocateLaws.{in-place-split, Replaces, in-place-chain, Grant, grant-large, grant-page, into-large, at-end, into-small}
-use Rattle.literal.proofs.ChainLaws.{lives-only-free, file-of-chain}
-use Rattle.literal.specs.Literal.{inPlaceOf, intoLarge, atEnd, largeRule, largePiece, intoSmall, smallPage, allocatedSmall, allocated}
+use Rattle.literal.proofs.ChangedChains.{lives-only-free, file-of-chain}
+use Rattle.literal.specs.Steps.{inPlaceOf, intoLarge, atEnd, largeRule, largePiece, intoSmall, smallPage, allocatedSmall, allocated}
 use Rattle.pages.proofs.PageLaws.{borders, up-border}
 use Rattle.pages.specs.Pages.{up, Border}
 use Rattle.pieces.proofs.PieceLaws.{small, large, entry-split}

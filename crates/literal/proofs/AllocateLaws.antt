@@ -9,8 +9,8 @@ use mathlib.Core.List.{List, [], _∷_, _++_, append-nil, append-assoc, cons≢n
 use mathlib.Core.Path.{_≡_, refl, ap}
 use native.Mathlib.Omega.{arith}
 use lib.ListN.{take, drop}
-use Rattle.literal.proofs.ChainLaws.{alone-live, alone-before, entry-free, entry-before, chain-live, chain-border}
-use Rattle.literal.specs.Literal.{inPlaceOf, intoLarge, atEnd, largePiece, intoSmall, smallPage}
+use Rattle.literal.proofs.ChangedChains.{entry-before, chain-live, chain-border}
+use Rattle.literal.specs.Steps.{inPlaceOf, intoLarge, atEnd, largePiece, intoSmall, smallPage}
 use Rattle.pages.proofs.PageLaws.{down-le, down-border, down-most, down-of, up-border, up-ge, up-lt, border-next, border-sum}
 use Rattle.pages.specs.Pages.{down, up, Border}
 use Rattle.pieces.proofs.PieceLaws.{large, large-small, small-large, live-free, not-free}
@@ -22,7 +22,7 @@ use Rattle.pieces.specs.declared.Status.the-variants.{Live, Free}
 use Rattle.pieces.specs.declared.Status.{Status}
 use Rattle.table.proofs.Canon.{Next, large-none, large-next, at-border, at-live, after}
 use Rattle.table.proofs.Chain.{Entry, ChainFrom, stop, step}
-use Rattle.table.proofs.ChainLaws.{entry-live, free-chain, chain-border-end}
+use Rattle.table.proofs.ChainLaws.{entry-live, free-chain, chain-border-end, alone-live, alone-before, entry-free}
 use Rattle.table.specs.Fill.{free, Within, Whole}
 
 -- ---- one entry is replaced

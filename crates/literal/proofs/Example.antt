@@ -18,8 +18,8 @@ use Rattle.table.specs.Fill.{free}
 use Rattle.choose.specs.Choose.{roomIn, fitsIn, bestOf, best}
 use Rattle.choose.specs.Place.{largePlaceFor, smallPlaceFor, placeFor}
 use Rattle.rules.specs.Editing.{Name}
-use Rattle.literal.specs.Literal.{File, atEnd, largeRule, smallPage, allocatedSmall, allocated}
-use Rattle.literal.specs.Literal.{merges, mergedBefore, mergedBehind, merged, emptied, cut, releasedAt, releasedFrom, released}
+use Rattle.literal.specs.Steps.{File, atEnd, largeRule, smallPage, allocatedSmall, allocated}
+use Rattle.literal.specs.Steps.{merges, mergedBefore, mergedBehind, merged, emptied, cut, releasedAt, releasedFrom, released}
 
 abbrev name : ℕ → ℕ → Name
 name a z = record { address = a; size = z }

@@ -11,8 +11,8 @@ use mathlib.Core.Path.{_≡_, refl, sym, ap, _∙_}
 use native.Mathlib.Omega.{arith}
 use lib.Dec.{eqb}
 use borrow.Author.Tests.{eqb-true, eqb-false, not-true}
-use Rattle.literal.proofs.ChainLaws.{Alone, alone-live, alone-before, entry-behind, nearest, Upto, add, lives-around}
-use Rattle.literal.specs.Literal.{Freed, merges, mergedBefore, mergedBehind, merged, asLarge, emptied}
+use Rattle.literal.proofs.ChangedChains.{entry-behind, nearest, Upto, add, lives-around}
+use Rattle.literal.specs.Steps.{Freed, merges, mergedBefore, mergedBehind, merged, asLarge, emptied}
 use Rattle.pages.proofs.Numbers.{split, and-left, and-right, not-both}
 use Rattle.pages.proofs.PageLaws.{true-border, false-border, down-le, down-border, down-in, border-next}
 use Rattle.pages.specs.Pages.{down, Border, borderb}
@@ -24,6 +24,7 @@ use Rattle.pieces.specs.declared.Piece.{Piece}
 use Rattle.pieces.specs.declared.Status.the-variants.{Live, Free}
 use Rattle.pieces.specs.declared.Status.{Status}
 use Rattle.table.proofs.Chain.{Entry, ChainFrom, stop, step}
+use Rattle.table.proofs.ChainLaws.{Alone, alone-live, alone-before}
 use Rattle.table.specs.Fill.{lives}
 
 -- ---- the test of a merge

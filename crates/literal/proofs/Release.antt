@@ -11,9 +11,9 @@ use mathlib.Core.Path.{_≡_, refl, sym, ap, _∙_}
 use native.Mathlib.Omega.{arith}
 use lib.Dec.{eqb}
 use borrow.Author.Tests.{eqb-true, eq-eqb}
-use Rattle.literal.proofs.ChainLaws.{entry-free, chain-end, chain-last, nearest, Upto, start, add, upto-chain, lives-only-free, lives-around, file-of-chain}
+use Rattle.literal.proofs.ChangedChains.{chain-end, chain-last, nearest, Upto, start, add, upto-chain, lives-only-free, lives-around, file-of-chain}
 use Rattle.literal.proofs.MergeLaws.{chain-free, Open, merged-open, Settled, emptied-merged}
-use Rattle.literal.specs.Literal.{Freed, becomesFree, merged, emptied, wholePages, cutFile, keptFile, cut, releasedAt, isNamed, releasedFrom, released}
+use Rattle.literal.specs.Steps.{Freed, becomesFree, merged, emptied, wholePages, cutFile, keptFile, cut, releasedAt, isNamed, releasedFrom, released}
 use Rattle.pages.proofs.Numbers.{not-both}
 use Rattle.pages.proofs.PageLaws.{down-le, down-lt, down-border, up-in, up-border, up-ge, up-lt, border-difference}
 use Rattle.pages.specs.Pages.{down, up, Border}
@@ -28,7 +28,7 @@ use Rattle.rules.proofs.SpliceLaws.{remove-at}
 use Rattle.rules.specs.Editing.{Name, names, remove}
 use Rattle.table.proofs.Canon.{canonical}
 use Rattle.table.proofs.Chain.{Entry, ChainFrom, stop, step, Chain}
-use Rattle.table.proofs.ChainLaws.{free-chain, chain-border-end}
+use Rattle.table.proofs.ChainLaws.{free-chain, chain-border-end, entry-free}
 use Rattle.table.specs.Fill.{lives, free, Good}
 use Rattle.literal.specs.Statements.{FileOf, ReleasingIn}
 

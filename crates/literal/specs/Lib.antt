@@ -1,3 +1,3 @@
 -- Document 01's rules for allocating and releasing as steps over the entries, and what is proved of them.
-pub mod Literal
+pub mod Steps
 pub mod Statements

@@ -1,5 +1,5 @@
--- What is proved of document 01's rules as they stand in Literal.antt: they give the table and the end that the calls promise. Statements
--- alone: each is proved in proofs/Theorems.antt, under its name in small letters.
+-- What is proved of document 01's rules as they stand in Steps.antt: they give the table and the end that the calls promise. Statements
+-- alone: each is proved in proofs/Statements.antt, under its name in small letters.
 --
 --   Request P k s       s bytes of class k can be asked for: 's >= P, large', 's < P, small'
 --   FileOf P f ps       the file f is the one that the live pieces ps determine
@@ -22,7 +22,7 @@ use Rattle.table.specs.Fill.{lives, fill, endOf}
 use Rattle.table.specs.Sound.{Sound}
 use Rattle.choose.specs.Place.{placeFor, placeAddress}
 use Rattle.rules.specs.Editing.{Name, names, insert, remove}
-use Rattle.literal.specs.Literal.{File, allocated, released}
+use Rattle.literal.specs.Steps.{File, allocated, released}
 
 pub record Request (P : ℕ) (k : Class) (s : ℕ) : Type 0 where
   pub some : 1 ≤ s

@@ -1,7 +1,7 @@
 // Page borders. P is any page size from 512 to 2^30: no power of two is assumed, so a border is found by division and never by a mask.
 ghost use mathlib.Core.Path.{_≡_};
 ghost use Prim.Native.Nat.{_+_, _≤_, _<_, _^_};
-ghost use Rattle.pages.specs.Pages.{down, up, left, upFrom, borderb, pageSizeb};
+ghost use Rattle.pages.specs.Pages.{down, up, upFrom, borderb, pageSizeb};
 
 pub const LEAST_PAGE: u64 = 512;
 
@@ -39,14 +39,6 @@ pub fn round_up(p: u64, a: u64) -> u64
     ensures { λ r. ⌜ r ≡ up p a ⌝ }
 {
     (a + (p - 1)) / p * p
-}
-
-// The bytes from a to the first multiple of p above it, 1 to p.
-pub fn left_in_page(p: u64, a: u64) -> u64
-    requires { ⌜ 0 < p ⌝ }
-    ensures { λ r. ⌜ r ≡ left p a ⌝ }
-{
-    p - a % p
 }
 
 // The bytes from a to the first multiple of p not below it, 0 to p - 1. Nothing is added to a, so any a may be asked.

@@ -9,7 +9,7 @@ ghost use mathlib.Core.Path.{_≡_};
 ghost use mathlib.Core.List.{[], _∷_};
 ghost use Prim.Native.Nat.{_+_, _*_, _≤_};
 ghost use lib.ListN.{length};
-ghost use Rattle.pieces.specs.Pieces.{classOf, freeb, sameClass, largeFreeb, kindOf, kindb, statusOf};
+ghost use Rattle.pieces.specs.Pieces.{classOf, freeb, largeFreeb, kindOf, kindb, statusOf};
 ghost use Rattle.pieces.specs.Words.{entryWords, wordsAt, pieceOf, entryAt, laid};
 
 pub enum Class {
@@ -61,28 +61,6 @@ pub fn is_free(status: Status) -> bool
     match status {
         Status::Live(_) => false,
         Status::Free(_) => true,
-    }
-}
-
-pub fn same_class(a: Class, b: Class) -> bool
-    ensures { λ r. ⌜ r ≡ sameClass a b ⌝ }
-{
-    match a {
-        Class::SmallMetadata => match b {
-            Class::SmallMetadata => true,
-            Class::SmallRaw => false,
-            Class::Large => false,
-        },
-        Class::SmallRaw => match b {
-            Class::SmallMetadata => false,
-            Class::SmallRaw => true,
-            Class::Large => false,
-        },
-        Class::Large => match b {
-            Class::SmallMetadata => false,
-            Class::SmallRaw => false,
-            Class::Large => true,
-        },
     }
 }
 

@@ -8,7 +8,7 @@
 -- Assumes nothing.
 use Prim.Native.Nat.{ℕ, _+_, _-_, _≤_, _<_, min, max}
 use mathlib.Core.List.{List, [], _∷_, _++_, append-nil, append-assoc}
-use mathlib.Core.Path.{_≡_, refl, sym, _∙_}
+use mathlib.Core.Path.{_≡_, refl, _∙_}
 use native.Mathlib.Omega.{arith}
 use Rattle.pages.proofs.PageLaws.{decBorder, down-le, down-lt, down-border, up-border, up-ge, up-lt, down-of, up-of, down-most, up-down}
 use Rattle.pages.specs.Pages.{down, up, Border}
@@ -20,7 +20,7 @@ use Rattle.pieces.specs.declared.Piece.{Piece}
 use Rattle.pieces.specs.declared.Status.the-variants.{Live, Free}
 use Rattle.pieces.specs.declared.Status.{Status}
 use Rattle.table.proofs.Chain.{Entry, ChainFrom, stop, step, Chain}
-use Rattle.table.proofs.ChainLaws.{entry-live, free-chain}
+use Rattle.table.proofs.ChainLaws.{entry-live, entry-free, free-chain}
 use Rattle.table.proofs.GapLaws.{lo-small, lo-large, hi-small, hi-large, gap-is, apart-le}
 use Rattle.table.proofs.LivesLaws.{lives-free-append}
 use Rattle.table.specs.Fill.{lives, free, lo, hi, gap, tail, fillFrom, fill, lastEnd, endOf, Within, Apart, border-between, one-family, GoodFrom, none, next, Good}
@@ -140,30 +140,12 @@ module _ (P : ℕ) (pos : 0 < P) where
   entry-small : {s : Status} {c : Class} {a n : ℕ} {es : List Piece} → Small c → 0 < n → Within P a n
       → (¬ Border P a → classOf s ≡ c) → (¬ Border P a → IsFree s → ⊥) → Entry P s a n (Free c) es
   entry-small t p w f g =
-      record {
-        some = p;
-        small = λ x. w;
-        aligned = λ q. absurd (live-free (sym q));
-        whole = λ q. absurd (live-free (sym q));
-        family = f;
-        merged = λ nb x y. g nb x;
-        large-merged = λ x y. small-large t (cc);
-        cut = λ x y. absurd (small-large t (cc));
-      }
+      entry-free p (λ x. w) f (record { small = g; large = λ x y. small-large t y }) (λ x y. absurd (small-large t y))
 
   entry-large : {s : Status} {a n : ℕ} {es : List Piece} → 0 < n → (¬ Border P a → classOf s ≡ Large) → (¬ Border P a → IsFree s → ⊥)
       → (s ≡ Free Large → ⊥) → (es ≡ [] → n < P) → Entry P s a n (Free Large) es
   entry-large p f g h c =
-      record {
-        some = p;
-        small = λ x. absurd (large-small x refl);
-        aligned = λ q. absurd (live-free (sym q));
-        whole = λ q. absurd (live-free (sym q));
-        family = f;
-        merged = λ nb x y. g nb x;
-        large-merged = λ x y. h x;
-        cut = λ x y. c x;
-      }
+      entry-free p (λ x. absurd (large-small x refl)) f (record { small = g; large = λ x y. h x }) (λ x y. c x)
 
   within-own : {a l : ℕ} → a < l → l ≤ up P a → Within P a (l - a)
   within-own {a} {l} x r =

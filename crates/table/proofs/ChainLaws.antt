@@ -1,25 +1,27 @@
 -- Laws of a chain.
 --
 --   entry-live          what a live entry of a chain has to show
+--   Alone, entry-free   a free entry and its neighbour do not have to merge; what a free entry has to show
 --   free-chain          a free entry before a chain, if there is a byte for it
 --   chain-le, chain-border-end     a chain starts at or below its end, and ends at a border
 --
 -- Assumes nothing.
 use Prim.Native.Nat.{ℕ, _+_, _-_, _≤_, _<_}
-use mathlib.Core.List.{List, _++_}
-use mathlib.Core.Path.{_≡_}
+use mathlib.Core.List.{List, [], _++_}
+use mathlib.Core.Path.{_≡_, sym, ap}
 use native.Mathlib.Omega.{arith}
 use Rattle.pages.proofs.Numbers.{split}
 use Rattle.pages.specs.Pages.{Border}
 use Rattle.pieces.proofs.PieceLaws.{live-free, not-free}
-use Rattle.pieces.specs.Pieces.{classOf}
+use Rattle.pieces.specs.Pieces.{classOf, Small, IsFree, is-free}
+use Rattle.pieces.specs.declared.Class.the-variants.{Large}
 use Rattle.pieces.specs.declared.Class.{Class}
 use Rattle.pieces.specs.declared.Piece.{Piece}
 use Rattle.pieces.specs.declared.Status.the-variants.{Live, Free}
 use Rattle.pieces.specs.declared.Status.{Status}
 use Rattle.table.proofs.Chain.{Entry, ChainFrom, stop, step}
 use Rattle.table.proofs.GapLaws.{free-none, free-cons}
-use Rattle.table.specs.Fill.{free, Whole}
+use Rattle.table.specs.Fill.{free, Within, Whole}
 
 pub entry-live : {P : ℕ} {s : Status} {a z : ℕ} {k : Class} {es : List Piece} → Whole P k a z → (¬ Border P a → classOf s ≡ k)
     → Entry P s a z (Live k) es
@@ -33,6 +35,32 @@ entry-live w f =
       merged = λ nb x y. not-free y;
       large-merged = λ x y. live-free y;
       cut = λ x y. absurd (live-free y);
+    }
+
+-- a free entry of class c and a neighbour of status s that meet at a do not have to merge
+pub record Alone (P : ℕ) (s : Status) (a : ℕ) (c : Class) : Type 0 where
+  pub small : ¬ Border P a → IsFree s → ⊥
+  pub large : s ≡ Free Large → c ≡ Large → ⊥
+
+pub alone-live : {P b : ℕ} {k c : Class} → Alone P (Live k) b c
+alone-live = record { small = λ nb x. not-free x; large = λ x y. live-free x }
+
+-- before a free entry
+pub alone-before : {P a z : ℕ} {s : Status} {k : Class} {es : List Piece} → Entry P s a z (Free k) es → Alone P s a k
+alone-before e = record { small = λ nb x. e .merged nb x is-free; large = λ x y. e .large-merged x (ap Free y) }
+
+pub entry-free : {P : ℕ} {s : Status} {a z : ℕ} {c : Class} {es : List Piece} → 0 < z → (Small c → Within P a z)
+    → (¬ Border P a → classOf s ≡ c) → Alone P s a c → (es ≡ [] → c ≡ Large → z < P) → Entry P s a z (Free c) es
+entry-free p w f g h =
+    record {
+      some = p;
+      small = w;
+      aligned = λ q. absurd (live-free (sym q));
+      whole = λ q. absurd (live-free (sym q));
+      family = f;
+      merged = λ nb x y. g .small nb x;
+      large-merged = λ x y. g .large x (cc);
+      cut = λ x y. h x (cc);
     }
 
 -- a free entry from a to b, if there is a byte between them, before a chain from b on

@@ -5,7 +5,7 @@ use mathlib.Core.Path.{_≡_, refl, sym, ap, _∙_}
 use native.Mathlib.Omega.{arith}
 use lib.ListN.{length, take}
 use borrow.Author.Needs.{needs}
-use Rattle.edit.proofs.Lists.{length-mapped}
+use Rattle.edit.proofs.SliceLaws.{length-mapped}
 use Rattle.edit.specs.Edit.{mostPieces, held}
 use Rattle.pieces.proofs.WordLaws.{laid-next, laid-none}
 use Rattle.pieces.specs.Words.{laid}

@@ -4,7 +4,7 @@ use mathlib.Core.Path.{_≡_}
 use lib.ListN.{length}
 use borrow.Author.Needs.{needs}
 use Rattle.edit.proofs.FewLaws.{holding-with}
-use Rattle.edit.proofs.Lists.{length-mapped}
+use Rattle.edit.proofs.SliceLaws.{length-mapped}
 use Rattle.edit.specs.Edit.{mostPieces}
 use Rattle.edit.proofs.few.Few.with.Statement.{statement}
 use Rattle.edit.proofs.few.Few.with.Tie as tie

@@ -4,7 +4,7 @@ use mathlib.Core.Path.{_≡_}
 use lib.ListN.{length}
 use borrow.Author.Needs.{needs}
 use Rattle.edit.proofs.FewLaws.{holding-free-cons, holding-free-none}
-use Rattle.edit.proofs.Lists.{length-mapped}
+use Rattle.edit.proofs.SliceLaws.{length-mapped}
 use Rattle.edit.specs.Edit.{mostPieces}
 use Rattle.edit.proofs.few.Few.with_free.Statement.{statement}
 use Rattle.edit.proofs.few.Few.with_free.Tie as tie

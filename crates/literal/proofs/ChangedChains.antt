@@ -1,16 +1,16 @@
 -- Chains that change in one place.
 --
--- In this order: what a free entry of a chain has to show; what may follow what, and where a chain ends; the
--- entries before a place, the nearest first (Upto), and how they join the entries from there on; live pieces; `file-of-chain`.
+-- In this order: the same entry in another place; what may follow what, and where a chain ends; the entries before a place, the nearest
+-- first (Upto), and how they join the entries from there on; live pieces; `file-of-chain`.
 --
 -- Assumes nothing.
-use Prim.Native.Nat.{ℕ, _+_, _-_, _<_}
+use Prim.Native.Nat.{ℕ, _+_, _<_}
 use mathlib.Core.List.{List, [], _∷_, _++_, append-nil, reverse, reverseAux, reverseAux-eq, cons≢nil}
 use mathlib.Core.Path.{_≡_, refl, sym, ap, _∙_}
 use native.Mathlib.Omega.{arith}
 use Rattle.pages.specs.Pages.{Border}
 use Rattle.pieces.proofs.PieceLaws.{live-free, not-free}
-use Rattle.pieces.specs.Pieces.{piece, classOf, Small, IsFree, is-free}
+use Rattle.pieces.specs.Pieces.{piece, classOf, IsFree}
 use Rattle.pieces.specs.declared.Class.the-variants.{Large}
 use Rattle.pieces.specs.declared.Class.{Class}
 use Rattle.pieces.specs.declared.Piece.{Piece}
@@ -20,57 +20,16 @@ use Rattle.table.proofs.Canon.{canonical}
 use Rattle.table.proofs.Chain.{Entry, ChainFrom, stop, step, Chain}
 use Rattle.table.proofs.ChainLaws.{chain-le}
 use Rattle.table.proofs.LivesLaws.{lives-free-append, lives-append}
-use Rattle.table.specs.Fill.{lives, free, Within}
+use Rattle.table.specs.Fill.{lives, free}
 use Rattle.literal.specs.Statements.{FileOf}
 
--- ---- entries
+-- ---- the same entry in another place
 
--- a free entry of class c and a neighbour of status s that meet at a do not have to merge
-pub record Alone (P : ℕ) (s : Status) (a : ℕ) (c : Class) : Type 0 where
-  pub small : ¬ Border P a → IsFree s → ⊥
-  pub large : s ≡ Free Large → c ≡ Large → ⊥
-
-pub alone-live : {P b : ℕ} {k c : Class} → Alone P (Live k) b c
-alone-live = record { small = λ nb x. not-free x; large = λ x y. live-free x }
-
--- before a free entry
-pub alone-before : {P a z : ℕ} {s : Status} {k : Class} {es : List Piece} → Entry P s a z (Free k) es → Alone P s a k
-alone-before e = record { small = λ nb x. e .merged nb x is-free; large = λ x y. e .large-merged x (ap Free y) }
-
-pub entry-free : {P : ℕ} {s : Status} {a z : ℕ} {c : Class} {es : List Piece} → 0 < z → (Small c → Within P a z)
-    → (¬ Border P a → classOf s ≡ c) → Alone P s a c → (es ≡ [] → c ≡ Large → z < P) → Entry P s a z (Free c) es
-entry-free p w f g h =
-    record {
-      some = p;
-      small = w;
-      aligned = λ q. absurd (live-free (sym q));
-      whole = λ q. absurd (live-free (sym q));
-      family = f;
-      merged = λ nb x y. g .small nb x;
-      large-merged = λ x y. g .large x (cc);
-      cut = λ x y. h x (cc);
-    }
-
--- the same entry before other entries
-pub entry-before : {P : ℕ} {s t : Status} {a z : ℕ} {es : List Piece} (ys : List Piece) → Entry P s a z t es
-    → (ys ≡ [] → t ≡ Free Large → z < P) → Entry P s a z t ys
-entry-before ys e h =
-    record {
-      some = e .some;
-      small = e .small;
-      aligned = e .aligned;
-      whole = e .whole;
-      family = e .family;
-      merged = e .merged;
-      large-merged = e .large-merged;
-      cut = h;
-    }
-
--- the same entry behind another one
-pub entry-behind : {P : ℕ} {s t : Status} {a z : ℕ} {es : List Piece} (u : Status) → Entry P s a z t es
+-- behind an entry of status u, and before the entries ys
+entry-moved : {P : ℕ} {s t : Status} {a z : ℕ} {es : List Piece} (u : Status) (ys : List Piece) → Entry P s a z t es
     → (¬ Border P a → classOf u ≡ classOf t) → (¬ Border P a → IsFree u → IsFree t → ⊥) → (u ≡ Free Large → t ≡ Free Large → ⊥)
-    → Entry P u a z t es
-entry-behind u e f g h =
+    → (ys ≡ [] → t ≡ Free Large → z < P) → Entry P u a z t ys
+entry-moved u ys e f g h c =
     record {
       some = e .some;
       small = e .small;
@@ -79,8 +38,17 @@ entry-behind u e f g h =
       family = f;
       merged = g;
       large-merged = h;
-      cut = e .cut;
+      cut = c;
     }
+
+pub entry-before : {P : ℕ} {s t : Status} {a z : ℕ} {es : List Piece} (ys : List Piece) → Entry P s a z t es
+    → (ys ≡ [] → t ≡ Free Large → z < P) → Entry P s a z t ys
+entry-before {s = s} ys e h = entry-moved s ys e (e .family) (e .merged) (e .large-merged) h
+
+pub entry-behind : {P : ℕ} {s t : Status} {a z : ℕ} {es : List Piece} (u : Status) → Entry P s a z t es
+    → (¬ Border P a → classOf u ≡ classOf t) → (¬ Border P a → IsFree u → IsFree t → ⊥) → (u ≡ Free Large → t ≡ Free Large → ⊥)
+    → Entry P u a z t es
+entry-behind {es = es} u e f g h = entry-moved u es e f g h (e .cut)
 
 -- ---- what may follow what
 

@@ -1,4 +1,4 @@
--- Facts about lists that name none of our words.
+-- Facts about the lists that slices and arrays hold, which name none of our words.
 --
 --   length-mapped      what owning an array of structs tells of its list: as length-unmapped of borrow.Author.Needs, at any map
 --   drop-replicate     the rest of a run of zeros
