@@ -36,7 +36,8 @@ ends-snoc : (xs : List Piece) (a z : ℕ) (c : Class) → EndsLive (xs ++ (piece
 ends-snoc [] a z c = ends-live ends-none
 ends-snoc (x ∷ xs) a z c = go (x .status) refl xs (ends-snoc xs a z c)
   where
-    go : (t : Status) → x .status ≡ t → (ys : List Piece) → EndsLive (ys ++ (piece a z (Live c) ∷ [])) → EndsLive (x ∷ (ys ++ (piece a z (Live c) ∷ [])))
+    go : (t : Status) → x .status ≡ t → (ys : List Piece) → EndsLive (ys ++ (piece a z (Live c) ∷ []))
+        → EndsLive (x ∷ (ys ++ (piece a z (Live c) ∷ [])))
     go (Live m) e ys h = rw (live-piece x e) (ends-live h)
     go (Free m) e [] h = rw (ap (λ (t : Status). piece (x .address) (x .size) t) e) (ends-free h)
     go (Free m) e (y ∷ ys) h = rw (ap (λ (t : Status). piece (x .address) (x .size) t) e) (ends-free h)

@@ -10,7 +10,7 @@
 -- Assumes nothing.
 use Prim.Native.Nat.{ℕ, zero, suc, _+_, _-_, _≤_, _<_, _^_}
 use mathlib.Core.List.{List, [], _∷_, _++_, append-assoc}
-use mathlib.Core.Path.{_≡_, refl, sym, ap, _∙_, subst, subst⁻¹}
+use mathlib.Core.Path.{_≡_, refl, sym, ap, _∙_}
 use native.Mathlib.Omega.{arith}
 use lib.ListN.{length, length-append}
 use borrow.Author.Tests.{lt-ltb, le-ltb}
@@ -72,6 +72,11 @@ unfolding lastEnd lives
 last-end-live a b starts-none some = absurd (some refl)
 last-end-live a b starts-live some = refl
 
+-- ---- the new entries: ps, behind a piece of class k that ends at a, and what closes behind them before the entries ys
+
+abbrev between : ℕ → Class → ℕ → List Piece → List Piece → List Piece
+between P k a ps ys = frontFrom P k a ps ++ closing P (lastClass k ps) (lastEnd a ps) ys
+
 module _ {P E n i j : ℕ} {w : List ℕ} (h : PlanFits P E n i j w) where
   abbrev f : Former
   f = formerOf w i
@@ -111,8 +116,7 @@ module _ {P E n i j : ℕ} {w : List ℕ} (h : PlanFits P E n i j w) where
   parts : Chain P E (xs ++ (entries w (f .from) (t - f .from) ++ ys))
   parts = rw (entries-parts w (f .from) t n from-to to-n) at chain
 
-  pub plan-filled : (ps : List Piece)
-      → xs ++ ((frontFrom P (f .class) (f .end) ps ++ closing P (lastClass (f .class) ps) (lastEnd (f .end) ps) ys) ++ ys) ≡ fill P (livesWith w n i j ps)
+  plan-filled : (ps : List Piece) → xs ++ (between P (f .class) (f .end) ps ys ++ ys) ≡ fill P (livesWith w n i j ps)
   plan-filled ps =
       let g = splice P (page-pos (h .page)) xs (entries w (f .from) (t - f .from)) ys ps (former-is w i .live) starts parts in
       rw (same ps, append-assoc) (sym (rw (former-is w i .class-is, former-is w i .end-is) at g))
@@ -133,7 +137,7 @@ module _ {P E n i j : ℕ} {w : List ℕ} (h : PlanFits P E n i j w) where
       let some : ys ≡ [] → ⊥ = λ e. omega (arith, sym (length-entries w t (n - t)) ∙ ap length e) in
       let old : lives (entries w 0 n) ≡ lives xs ++ (lives mid ++ lives ys) =
       rw (entries-parts w (f .from) t n from-to to-n, lives-append xs (mid ++ ys), lives-append mid ys) in
-      let e : E ≡ up P (lastEnd 0 (lives xs ++ (lives mid ++ lives ys))) = canonical (page-pos (h .page)) chain .1 ∙ ap (λ (l : List Piece). up P (lastEnd 0 l)) old in
+      let e : E ≡ up P (lastEnd 0 (lives xs ++ (lives mid ++ lives ys))) = rw old at (canonical (page-pos (h .page)) chain .1) in
       sym (e ∙ ap (up P) (end-parts (lives xs) (lives mid) ∙ (last-end-live _ _ starts some ∙ sym (end-parts (lives xs) ps))))
 
   pub plan-ends : (ps : List Piece) → endBehind P E (lastEnd (f .end) ps) t n ≡ endOf P (livesWith w n i j ps)
@@ -163,7 +167,7 @@ module _ {P E n i j : ℕ} {w : List ℕ} (h : PlanFits P E n i j w) where
 
   -- ---- the whole
 
-  module _ (ps : List Piece) (q : Few) (g : Holding q (frontFrom P (f .class) (f .end) ps ++ closing P (lastClass (f .class) ps) (lastEnd (f .end) ps) ys)) where
+  module _ (ps : List Piece) (q : Few) (g : Holding q (between P (f .class) (f .end) ps ys)) where
     filled : xs ++ (held q ++ ys) ≡ fill P (livesWith w n i j ps)
     filled = rw (g .pieces) (plan-filled ps)
 
@@ -180,16 +184,9 @@ module _ {P E n i j : ℕ} {w : List ℕ} (h : PlanFits P E n i j w) where
 
 -- a plan of what was found is a plan of what is there
 module _ {P E n i j : ℕ} {w : List ℕ} (h : PlanFits P E n i j w) (fr : Former) (to : ℕ) (ef : fr ≡ formerOf w i) (et : to ≡ nextOf w j (n - j)) where
-  found-plan : (ps : List Piece) (q : Few) (r : Plan)
-      → Holding q (frontFrom P (fr .class) (fr .end) ps ++ closing P (lastClass (fr .class) ps) (lastEnd (fr .end) ps) (entries w to (n - to)))
+  found-plan : (ps : List Piece) (q : Few) (r : Plan) → Holding q (between P (fr .class) (fr .end) ps (entries w to (n - to)))
       → r ≡ planOf P E n (fr .from) to q (lastEnd (fr .end) ps) → Planned P n w (livesWith w n i j ps) r
-  found-plan ps q r g er =
-      let g1 = subst (λ (v : Former). Holding q (frontFrom P (v .class) (v .end) ps ++ closing P (lastClass (v .class) ps) (lastEnd (v .end) ps) (entries w to (n - to)))) ef g in
-      let f : Former = formerOf w i in
-      let g2 = subst (λ (v : ℕ). Holding q (frontFrom P (f .class) (f .end) ps ++ closing P (lastClass (f .class) ps) (lastEnd (f .end) ps) (entries w v (n - v)))) et g1 in
-      let e : r ≡ planOf P E n (f .from) (nextOf w j (n - j)) q (lastEnd (f .end) ps) =
-      er ∙ (ap (λ (v : Former). planOf P E n (v .from) to q (lastEnd (v .end) ps)) ef ∙ ap (λ (v : ℕ). planOf P E n (f .from) v q (lastEnd (f .end) ps)) et) in
-      subst⁻¹ (λ (v : Plan). Planned P n w (livesWith w n i j ps) v) e (planned-is h ps q g2)
+  found-plan ps q r g er = rw (er, ef, et) (planned-is h ps q (rw (ef, et) at g))
 
   pub found-sum : fr .end + P ≤ 2 ^ 64
   found-sum = omega (arith, ap (λ (v : Former). v .end) ef, former-sum h)
@@ -203,7 +200,7 @@ module _ {P E n i j : ℕ} {w : List ℕ} (h : PlanFits P E n i j w) (fr : Forme
   pub planned-without : (e q : Few) (r : Plan) → Holding e [] → Holding q (held e ++ closing P (fr .class) (fr .end) (entries w to (n - to)))
       → r ≡ planOf P E n (fr .from) to q (fr .end) → Planned P n w (livesWith w n i j []) r
   unfolding frontFrom lastClass lastEnd
-  planned-without e q r he hq er = found-plan [] q r (holding-more (closing P (fr .class) (fr .end) (entries w to (n - to))) he hq) er
+  planned-without e q r he hq er = found-plan [] q r (holding-more _ he hq) er
 
   pub planned-with : (x : Piece) (k : Class) (e g c q : Few) (r : Plan) → k ≡ classOf (x .status) → Holding e []
       → Holding g (held e ++ gap P (fr .class) (fr .end) (x .address) k) → Holding c (held g ++ (x ∷ []))
@@ -211,5 +208,5 @@ module _ {P E n i j : ℕ} {w : List ℕ} (h : PlanFits P E n i j w) (fr : Forme
       → Planned P n w (livesWith w n i j (x ∷ [])) r
   unfolding frontFrom lastClass lastEnd
   planned-with x k e g c q r ek he hg hc hq er =
-      let a = holding-more (closing P k (behind x) (entries w to (n - to))) (holding-more (x ∷ []) (holding-more (gap P (fr .class) (fr .end) (x .address) k) he hg) hc) hq in
+      let a = holding-more _ (holding-more _ (holding-more _ he hg) hc) hq in
       found-plan (x ∷ []) q r (rw (← ek) a) er

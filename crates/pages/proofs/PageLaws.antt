@@ -13,7 +13,8 @@ use native.Mathlib.Omega.{arith}
 use lib.Dec.{leb}
 use borrow.Author.Tests.{eq-eqb, ne-eqb, eqb-true, le-leb, lt-leb, leb-true}
 use Rattle.pages.proofs.Numbers.{split, and-left, and-right, both}
-use Rattle.pages.specs.Pages.{leastPage, largestPage, PageSize, pageSizeb, Border, borderb, down, up, left, upFrom, LastBorder, FirstBorder, BordersAt, Borders}
+use Rattle.pages.specs.Pages.{leastPage, largestPage, PageSize, pageSizeb, Border, borderb, down, up, left, upFrom}
+use Rattle.pages.specs.Pages.{LastBorder, FirstBorder, BordersAt, Borders}
 
 -- ---- tests
 

@@ -23,7 +23,8 @@ use Rattle.table.proofs.Chain.{Entry, ChainFrom, stop, step, Chain}
 use Rattle.table.proofs.ChainLaws.{entry-live, entry-free, free-chain}
 use Rattle.table.proofs.GapLaws.{lo-small, lo-large, hi-small, hi-large, gap-is, apart-le}
 use Rattle.table.proofs.LivesLaws.{lives-free-append}
-use Rattle.table.specs.Fill.{lives, free, lo, hi, gap, tail, fillFrom, fill, lastEnd, endOf, Within, Apart, border-between, one-family, GoodFrom, none, next, Good}
+use Rattle.table.specs.Fill.{lives, free, lo, hi, gap, tail, fillFrom, fill, lastEnd, endOf}
+use Rattle.table.specs.Fill.{Within, Apart, border-between, one-family, GoodFrom, none, next, Good}
 
 lives-gap : (P : ℕ) (k : Class) (a b : ℕ) (m : Class) (es : List Piece) → lives (gap P k a b m ++ es) ≡ lives es
 lives-gap P k a b m es = rw (gap-is P k a b m refl refl) (simp (append-assoc, lives-free-append))
@@ -159,14 +160,16 @@ module _ (P : ℕ) (pos : 0 < P) where
   module _ {E : ℕ} {m : Class} {b : ℕ} {es : List Piece} (filled : es ≡ [] → ⊥)
       (go : (s : Status) → (¬ Border P b → classOf s ≡ m) → ChainFrom P E s b es) where
     put-next : {s : Status} {l h : ℕ} → High b m l h → (h ≡ b → ¬ Border P b → classOf s ≡ m) → ChainFrom P E s h (free m h b ++ es)
-    put-next {s} {l} {h} f g =
-        free-chain m h b es (f .h-b)
-        (λ x. entry-small (f .own x) (omega arith) (record { under = omega (arith, f .page); in-page = omega (arith, f .page, down-of P pos (f .at x)) }) (λ nb. absurd (nb (f .at x))) (λ nb i. nb (f .at x)))
-        (λ x. go (Free m) (λ nb. refl))
-        (λ e. go s (g e))
+    put-next {s} {l} {h} f g = free-chain m h b es (f .h-b) entry (λ x. go (Free m) (λ nb. refl)) (λ e. go s (g e))
+      where
+        within : h < b → Within P h (b - h)
+        within x = record { under = omega (arith, f .page); in-page = omega (arith, f .page, down-of P pos (f .at x)) }
 
-    put-large : {s : Status} {l h : ℕ} → High b m l h → (l < b → ¬ Border P l → classOf s ≡ Large) → (l < b → ¬ Border P l → IsFree s → ⊥)
-        → (s ≡ Free Large → ⊥) → (l ≡ b → ¬ Border P b → classOf s ≡ m) → ChainFrom P E s l (free Large l h ++ (free m h b ++ es))
+        entry : h < b → Entry P s h (b - h) (Free m) es
+        entry x = entry-small (f .own x) (omega arith) (within x) (λ nb. absurd (nb (f .at x))) (λ nb i. nb (f .at x))
+
+    put-large : {s : Status} {l h : ℕ} → High b m l h → (l < b → ¬ Border P l → classOf s ≡ Large)
+        → (l < b → ¬ Border P l → IsFree s → ⊥) → (s ≡ Free Large → ⊥) → (l ≡ b → ¬ Border P b → classOf s ≡ m) → ChainFrom P E s l (free Large l h ++ (free m h b ++ es))
     put-large {s} {l} {h} f c i u g =
         free-chain Large l h (free m h b ++ es) (f .l-h)
         (λ x. entry-large (omega arith) (c (omega (arith, f .h-b))) (i (omega (arith, f .h-b))) u (λ q. absurd (filled (append-right (free m h b) es q))))

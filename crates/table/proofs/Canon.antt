@@ -20,8 +20,10 @@ use Rattle.pieces.specs.declared.Piece.{Piece}
 use Rattle.pieces.specs.declared.Status.the-variants.{Live, Free}
 use Rattle.pieces.specs.declared.Status.{Status}
 use Rattle.table.proofs.Chain.{Entry, ChainFrom, stop, step, Chain}
-use Rattle.table.proofs.GapLaws.{free-none, free-some, lo-small, lo-large, hi-small, hi-large, gap-is, hi-here, lo-border, gap-here, apart-le}
-use Rattle.table.specs.Fill.{lives, free, lo, hi, gap, fillFrom, fill, lastEnd, endOf, Within, Whole, Apart, border-between, one-family, GoodFrom, none, next, Good}
+use Rattle.table.proofs.GapLaws.{free-none, free-here, free-some, lo-small, lo-large, hi-small, hi-large}
+use Rattle.table.proofs.GapLaws.{gap-is, hi-here, lo-border, gap-here, apart-le}
+use Rattle.table.specs.Fill.{lives, free, lo, hi, gap, fillFrom, fill, lastEnd, endOf}
+use Rattle.table.specs.Fill.{Within, Whole, Apart, border-between, one-family, GoodFrom, none, next, Good}
 
 module _ (P : ℕ) (pos : 0 < P) where
   -- ---- what follows a free entry: the live pieces that are left begin so
@@ -43,10 +45,16 @@ module _ (P : ℕ) (pos : 0 < P) where
   border-at : {s t : Status} {a n : ℕ} {es : List Piece} → (classOf s ≡ classOf t → ⊥) → Entry P s a n t es → Border P a
   border-at {a = a} no-way y = elim (decBorder P a) [ yes b ↦ b | no nb ↦ absurd (no-way (y .family nb)) ]
 
+  -- before a small piece that starts in the page of the border e, the free bytes from e on are of its class
+  hi-within : {m : Class} {e n : ℕ} → Small m → Border P e → Within P e n → hi P e (e + n) m ≡ e
+  hi-within {e = e} {n = n} s b w =
+      let d : down P (e + n) ≡ e = down-in P pos {x = e} {y = e + n} b (omega arith) (omega (arith, w .under)) in
+      hi-small P e (e + n) s ∙ omega arith
+
   small-off : {c : Class} {e n : ℕ} {ps : List Piece} → Small c → Border P e → Within P e n → Next c (e + n) ps → 0 < n → Next Large e ps
   small-off {e = e} {n = n} h b w (at-border k b') s = absurd (not-border P pos b (omega arith) (omega (arith, w)) b')
   small-off {e = e} {n = n} h b w (at-live {m = m} k nb q) s =
-      large-next {b = e + n} b (omega arith) (hi-small P e (e + n) (rw q at k) ∙ omega (arith, down-in P pos {x = e} {y = e + n} b (omega arith) (omega (arith, w))))
+      large-next {b = e + n} b (omega arith) (hi-within (rw q at k) b w)
   small-off h b w (large-none b') s = absurd (large-small h refl)
   small-off h b w (large-next b' l q) s = absurd (large-small h refl)
 
@@ -122,7 +130,7 @@ module _ (P : ℕ) (pos : 0 < P) where
   tail-widen k c a n b p u q =
       let u1 : up P a ≡ a + n = up-in P pos b (omega arith) (omega arith) in
       let u2 : up P (a + n) ≡ a + n = up-of P pos b in
-      cc (free-some c a n p, free-none c (a + n) (a + n) (omega arith))
+      cc (free-some c a n p, free-here c (a + n))
 
   gap-widen-border : (k c m : Class) (a n b : ℕ) → Small c → Border P (a + n) → 0 < n → n < P → k ≡ c → a + n ≤ b
       → gap P k a b m ≡ piece a n (Free c) ∷ gap P c (a + n) b m
@@ -130,7 +138,7 @@ module _ (P : ℕ) (pos : 0 < P) where
       let u1 : up P a ≡ a + n = up-in P pos bo (omega arith) (omega arith) in
       let l1 : lo P c a b ≡ a + n = lo-small P a b h ∙ omega arith in
       let l2 : lo P c (a + n) b ≡ a + n = lo-border P pos c bo l in
-      rw (q, gap-is P c a b m l1 refl, gap-is P c (a + n) b m l2 refl, free-some c a n p, free-none c (a + n) (a + n) (omega arith)) refl
+      rw (q, gap-is P c a b m l1 refl, gap-is P c (a + n) b m l2 refl, free-some c a n p, free-here c (a + n)) refl
 
   -- a small entry ends within its page, at the next piece
   gap-widen-live : (k c m : Class) (a n : ℕ) → Small c → Within P a n → 0 < n → (¬ Border P a → k ≡ c) → c ≡ m
@@ -140,13 +148,14 @@ module _ (P : ℕ) (pos : 0 < P) where
       on : Border P a → gap P k a (a + n) m ≡ piece a n (Free c) ∷ gap P c (a + n) (a + n) m
       on b =
           let l1 : lo P k a (a + n) ≡ a = lo-border P pos k b (omega arith) in
-          let h1 : hi P a (a + n) m ≡ a = hi-small P a (a + n) (rw q at h) ∙ omega (arith, down-in P pos {x = a} {y = a + n} b (omega arith) (omega (arith, w))) in
-          rw (gap-is P k a (a + n) m l1 h1, gap-here P pos c m (a + n), free-none k a a (omega arith), free-none Large a a (omega arith), free-some m a n p, q) refl
+          let h1 : hi P a (a + n) m ≡ a = hi-within (rw q at h) b w in
+          rw (gap-is P k a (a + n) m l1 h1, gap-here P pos c m (a + n), free-here k a, free-here Large a, free-some m a n p, q) refl
 
       off : ¬ Border P a → gap P k a (a + n) m ≡ piece a n (Free c) ∷ gap P c (a + n) (a + n) m
       off nb =
           let l1 : lo P c a (a + n) ≡ a + n = lo-small P a (a + n) h ∙ omega (arith, w, up-down P pos nb) in
-          rw (f nb, gap-is P c a (a + n) m l1 (hi-here P pos m (a + n)), gap-here P pos c m (a + n), free-some c a n p, free-none Large (a + n) (a + n) (omega arith), free-none m (a + n) (a + n) (omega arith)) refl
+          let h1 : hi P (a + n) (a + n) m ≡ a + n = hi-here P pos m (a + n) in
+          rw (f nb, gap-is P c a (a + n) m l1 h1, gap-here P pos c m (a + n), free-some c a n p, free-here Large (a + n), free-here m (a + n)) refl
 
   hi-move : {m : Class} {a e b : ℕ} → View m → Border P e → a ≤ e → e ≤ b → hi P e b m ≡ e → hi P a b m ≡ e
   hi-move {a = a} {e = e} {b = b} (small h) bo l1 l2 q =
@@ -157,12 +166,13 @@ module _ (P : ℕ) (pos : 0 < P) where
   lo-start : (k : Class) (a b : ℕ) → a ≤ b → (¬ Border P a → k ≡ Large) → lo P k a b ≡ a
   lo-start k a b l f = elim (decBorder P a) [ yes bo ↦ lo-border P pos k bo l | no nb ↦ rw (f nb) (lo-large P a b) ]
 
-  gap-widen-large : (k m : Class) (a n b : ℕ) → Border P (a + n) → 0 < n → (¬ Border P a → k ≡ Large) → a + n ≤ b → hi P (a + n) b m ≡ a + n
-      → gap P k a b m ≡ piece a n (Free Large) ∷ gap P Large (a + n) b m
+  gap-widen-large : (k m : Class) (a n b : ℕ) → Border P (a + n) → 0 < n → (¬ Border P a → k ≡ Large) → a + n ≤ b
+      → hi P (a + n) b m ≡ a + n → gap P k a b m ≡ piece a n (Free Large) ∷ gap P Large (a + n) b m
   gap-widen-large k m a n b bo p f l q =
       let l1 : lo P k a b ≡ a = lo-start k a b (omega arith) f in
+      let l2 : lo P Large (a + n) b ≡ a + n = lo-large P (a + n) b in
       let h1 : hi P a b m ≡ a + n = hi-move (view m) bo (omega arith) l q in
-      rw (gap-is P k a b m l1 h1, gap-is P Large (a + n) b m (lo-large P (a + n) b) q, free-none k a a (omega arith), free-some Large a n p, free-none Large (a + n) (a + n) (omega arith)) refl
+      rw (gap-is P k a b m l1 h1, gap-is P Large (a + n) b m l2 q, free-here k a, free-some Large a n p, free-here Large (a + n)) refl
 
   pub apart-widen : {k c m : Class} {a b : ℕ} (n : ℕ) → (¬ Border P a → k ≡ c) → Apart P c (a + n) b m → Apart P k a b m
   apart-widen {a = a} n f (border-between h) = border-between (omega (arith, up-mono P pos {a = a} {b = a + n} (omega arith)))

@@ -24,6 +24,9 @@ pub free-none : (c : Class) (a b : ℕ) → b ≤ a → free c a b ≡ []
 unfolding free
 free-none c a b h = simp (le-ltb a b h)
 
+pub free-here : (c : Class) (a : ℕ) → free c a a ≡ []
+free-here c a = free-none c a a (omega arith)
+
 pub free-cons : (c : Class) (a b : ℕ) → a < b → free c a b ≡ piece a (b - a) (Free c) ∷ []
 unfolding free
 free-cons c a b h = simp (lt-ltb a b h)
@@ -83,7 +86,7 @@ module _ (P : ℕ) (pos : 0 < P) where
   pub gap-here : (k m : Class) (a : ℕ) → gap P k a a m ≡ []
   gap-here k m a =
       gap-is P k a a m (lo-here k a) (hi-here m a)
-      ∙ simp (free-none k a a (omega arith), free-none Large a a (omega arith), free-none m a a (omega arith))
+      ∙ simp (free-here k a, free-here Large a, free-here m a)
 
   pub apart-le : {k m : Class} {a b : ℕ} → Apart P k a b m → a ≤ b
   apart-le {a = a} (border-between h) = omega (arith, up-ge P pos a)

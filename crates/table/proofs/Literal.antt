@@ -207,7 +207,8 @@ module _ (P : ℕ) (pos : 0 < P) where
         (λ l. let e : down P a + P ≡ a + n = omega (arith, v) in absurd (nb (rw e at (border-next P pos (down-border P pos a)))))
         (λ l. l)))
 
-  pair-free : {a n k : ℕ} {c d : Class} {es : List Piece} → View c → Words (piece a n (Free c) ∷ piece (a + n) k (Free d) ∷ es) → ¬ Border P (a + n) → ⊥
+  pair-free : {a n k : ℕ} {c d : Class} {es : List Piece} → View c → Words (piece a n (Free c) ∷ piece (a + n) k (Free d) ∷ es)
+      → ¬ Border P (a + n) → ⊥
   pair-free {a} {n} {k} {c} {d} (small h) w nb =
       w .no-two-small (piece a n (Free c)) (piece (a + n) k (Free d)) here c h refl (ap Free (sym (pair-family w nb))) (one-page w nb h)
   pair-free {a} {n} {k} {d = d} large w nb =

@@ -323,8 +323,9 @@ zero-all (x ∷ v) h = both _ _ (eq-eqb x 0 (h 0 (omega arith))) (zero-all v (λ
 
 pub zeros-true : (w : List ℕ) (n : ℕ) → zerosb (drop (n * entryWords) w) ≡ true → Zeros w n
 zeros-true w n h i l m =
-    let e : i ≡ n * entryWords + (i - n * entryWords) = omega arith in
-    ap (λ (v : ℕ). getD w v 0) e ∙ (sym (getD-drop (n * entryWords) w (i - n * entryWords) 0) ∙ all-zero (drop (n * entryWords) w) h (i - n * entryWords))
+    let k : ℕ = i - n * entryWords in
+    let e : i ≡ n * entryWords + k = omega arith in
+    ap (λ (v : ℕ). getD w v 0) e ∙ (sym (getD-drop (n * entryWords) w k 0) ∙ all-zero (drop (n * entryWords) w) h k)
 
 pub true-zeros : (w : List ℕ) (n : ℕ) → Zeros w n → zerosb (drop (n * entryWords) w) ≡ true
 true-zeros w n z =

@@ -113,8 +113,9 @@ module _ (P M E n : ℕ) (w : List ℕ) (f : Filled P M E n w) where
 
   filled-sound : Sound P M E n w
   filled-sound =
+      let zeros : Zeros (table (length w) es) n = subst⁻¹ (λ (k : ℕ). Zeros (table (length w) es) k) (f .count) (zeros-of-table (length w) es) in
       chain-sound (f .ranges)
-      (subst⁻¹ (λ (v : List ℕ). Zeros v n) (f .words) (subst⁻¹ (λ (k : ℕ). Zeros (table (length w) es) k) (f .count) (zeros-of-table (length w) es)))
+      (subst⁻¹ (λ (v : List ℕ). Zeros v n) (f .words) zeros)
       (λ i l. subst⁻¹ (λ (v : List ℕ). Kind (kindAt v i)) (f .words) (kinds-of-table (length w) es i (omega (arith, f .count))))
       (rw (filled-entries, f .ends) (fill-chain (page-pos (f .ranges .page)) (f .good)))
 

@@ -27,7 +27,14 @@ returns-5 c = rw (c .match .keys5)
 
 returns-6 : tie.Need-returns-6
 unfolding statusOf
-returns-6 c = simp (ne-eqb _ _ (c .match .rest .0 .0 .0 .0 .1), ne-eqb _ _ (c .match .rest .0 .0 .0 .1), ne-eqb _ _ (c .match .rest .0 .0 .1), ne-eqb _ _ (c .match .rest .0 .1), ne-eqb _ _ (c .match .rest .1))
+returns-6 c =
+    let m = c .match .rest in
+    let not-1 = ne-eqb _ _ (m .0 .0 .0 .0 .1) in
+    let not-2 = ne-eqb _ _ (m .0 .0 .0 .1) in
+    let not-3 = ne-eqb _ _ (m .0 .0 .1) in
+    let not-4 = ne-eqb _ _ (m .0 .1) in
+    let not-5 = ne-eqb _ _ (m .1) in
+    simp (not-1, not-2, not-3, not-4, not-5)
 
 pub status-of-spec : {M : Type 1} → statement M
 status-of-spec = tie.close (tie.spec returns returns-2 returns-3 returns-4 returns-5 returns-6)

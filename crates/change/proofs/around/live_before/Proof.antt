@@ -28,10 +28,18 @@ enum-known-status : tie.Need-enum-known-status Inv-loop μ-loop
 enum-known-status c = search needs
 
 add-t9 : tie.Need-add-t9 Inv-loop μ-loop
-add-t9 c = let l = c .before .before .before .before .before .before .loop in let e = c .before .before .before .before .piece-at .ensures in rw e (omega (arith, c .before .before .before .before .before .before .before .before .pre .1 (l .from - 1) (omega arith)))
+add-t9 c =
+    let l = c .before .before .before .before .before .before .loop in
+    let fits = c .before .before .before .before .before .before .before .before .pre .1 (l .from - 1) (omega arith) in
+    rw (c .before .before .before .before .piece-at .ensures) (omega (arith, fits))
 
 returns : tie.Need-returns Inv-loop μ-loop
-returns c = let l = c .before .before .before .before .before .before .loop in sym (former-live _ _ _ _ (c .before .before .before .before .before .loop-test .taken) (c .before .before .before .before .piece-at .ensures) (c .before .before .status .given .1)) ∙ l .inv .1
+returns c =
+    let l = c .before .before .before .before .before .before .loop in
+    let some = c .before .before .before .before .before .loop-test .taken in
+    let read = c .before .before .before .before .piece-at .ensures in
+    let live = c .before .before .status .given .1 in
+    sym (former-live _ _ _ _ some read live) ∙ l .inv .1
 
 enum-told : tie.Need-enum-told Inv-loop μ-loop
 enum-told c = search needs
@@ -43,11 +51,20 @@ loop-less : tie.Need-loop-less Inv-loop μ-loop
 loop-less c = search needs
 
 loop-again : tie.Need-loop-again Inv-loop μ-loop
-loop-again c = let l = c .before .before .before .before .loop in (search needs, sym (former-free _ _ _ _ (c .before .before .before .loop-test .taken) (c .before .before .piece-at .ensures) (c .enum-told .given .1)) ∙ l .inv .1)
+loop-again c =
+    let l = c .before .before .before .before .loop in
+    let some = c .before .before .before .loop-test .taken in
+    let read = c .before .before .piece-at .ensures in
+    let free = c .enum-told .given .1 in
+    (search needs, sym (former-free _ _ _ _ some read free) ∙ l .inv .1)
 
 returns-2 : tie.Need-returns-2 Inv-loop μ-loop
 unfolding formerOf
-returns-2 c = let l = c .before .loop in let e : l .from ≡ 0 = omega arith in sym (ap (formerOf (c .before .before .before .args .table .now)) e) ∙ l .inv .1
+returns-2 c =
+    let l = c .before .loop in
+    let table = c .before .before .before .args .table .now in
+    let e : l .from ≡ 0 = omega arith in
+    sym (ap (formerOf table) e) ∙ l .inv .1
 
 pub live-before-spec : {M : Type 1} → statement M
 live-before-spec =

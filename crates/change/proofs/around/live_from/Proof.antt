@@ -26,7 +26,12 @@ is-free-requires : tie.Need-is-free-requires Inv-loop μ-loop
 is-free-requires c κs = search needs
 
 returns : tie.Need-returns Inv-loop μ-loop
-returns c = let l = c .before .before .before .before .loop in sym (next-stop _ _ _ _ (c .before .before .piece-at .ensures) (c .before .before .before .loop-test .taken) (fails (c .before .is-free .ensures) (c .if1 .taken))) ∙ l .inv .1
+returns c =
+    let l = c .before .before .before .before .loop in
+    let among = c .before .before .before .loop-test .taken in
+    let read = c .before .before .piece-at .ensures in
+    let live = fails (c .before .is-free .ensures) (c .if1 .taken) in
+    sym (next-stop _ _ _ _ read among live) ∙ l .inv .1
 
 add-to : tie.Need-add-to Inv-loop μ-loop
 add-to c = search needs
@@ -35,10 +40,18 @@ loop-less : tie.Need-loop-less Inv-loop μ-loop
 loop-less c = search needs
 
 loop-again : tie.Need-loop-again Inv-loop μ-loop
-loop-again c = let l = c .before .before .before .before .loop in (search needs, sym (next-on _ _ _ _ (c .before .before .piece-at .ensures) (c .before .before .before .loop-test .taken) (passes (c .before .is-free .ensures) (c .if1 .left))) ∙ l .inv .1)
+loop-again c =
+    let l = c .before .before .before .before .loop in
+    let among = c .before .before .before .loop-test .taken in
+    let read = c .before .before .piece-at .ensures in
+    let free = passes (c .before .is-free .ensures) (c .if1 .left) in
+    (search needs, sym (next-on _ _ _ _ read among free) ∙ l .inv .1)
 
 returns-2 : tie.Need-returns-2 Inv-loop μ-loop
-returns-2 c = let l = c .before .loop in let e : l .to ≡ c .before .before .before .args .n = omega arith in sym e ∙ (sym (next-none _ _ _ (c .loop-test .left)) ∙ l .inv .1)
+returns-2 c =
+    let l = c .before .loop in
+    let e : l .to ≡ c .before .before .before .args .n = omega arith in
+    sym e ∙ (sym (next-none _ _ _ (c .loop-test .left)) ∙ l .inv .1)
 
 pub live-from-spec : {M : Type 1} → statement M
 live-from-spec =

@@ -15,7 +15,10 @@ with-gap-requires : tie.Need-with-gap-requires
 with-gap-requires c κs = search needs
 
 returns : tie.Need-returns
-returns c = rw (closing-next _ _ _ _ _ _ _ (c .before .before .before .if1 .taken) (c .before .before .piece-at .ensures), ← c .before .class-of .ensures) (c .with-gap .ensures)
+returns c =
+    let among = c .before .before .before .if1 .taken in
+    let read = c .before .before .piece-at .ensures in
+    rw (closing-next _ _ _ _ _ _ _ among read, ← c .before .class-of .ensures) (c .with-gap .ensures)
 
 with-tail-requires : tie.Need-with-tail-requires
 with-tail-requires c κs = search needs

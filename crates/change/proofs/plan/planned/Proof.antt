@@ -19,7 +19,10 @@ add-t12 : tie.Need-add-t12
 add-t12 c = search needs
 
 returns : tie.Need-returns
-returns c = let a = c .before .args in ap (λ (v : ℕ). record { from = a .from; to = a .to; new = a .new; end = v; count = a .from + a .new .count + (a .n - a .to) }) (c .end-behind .ensures)
+returns c =
+    let a = c .before .args in
+    let count = a .from + a .new .count + (a .n - a .to) in
+    ap (λ (v : ℕ). record { from = a .from; to = a .to; new = a .new; end = v; count = count }) (c .end-behind .ensures)
 
 pub planned-spec : {M : Type 1} → statement M
 planned-spec = tie.close (tie.spec end-behind-requires add-t10 sub-t11 add-t12 returns)

@@ -9,7 +9,9 @@ use Rattle.change.proofs.plan.with.Statement.{statement}
 use Rattle.change.proofs.plan.with.Tie as tie
 
 live-before-requires : tie.Need-live-before-requires
-live-before-requires c κs = let h = c .before .pre .0 in (omega (arith, h .low, h .high, h .room), plan-ends-fit h)
+live-before-requires c κs =
+    let h = c .before .pre .0 in
+    (omega (arith, h .low, h .high, h .room), plan-ends-fit h)
 
 live-from-requires : tie.Need-live-from-requires
 live-from-requires c κs = search needs
@@ -24,22 +26,43 @@ none-requires : tie.Need-none-requires
 none-requires c κs = search needs
 
 with-gap-requires : tie.Need-with-gap-requires
-with-gap-requires c κs = let h = c .before .before .before .before .before .before .pre .0 in let s = found-sum h _ _ (c .before .before .before .before .live-before .ensures) (c .before .before .before .live-from .ensures) in
-    ((page-pos (h .page), s), omega (arith, c .none .ensures .count))
+with-gap-requires c κs =
+    let h = c .before .before .before .before .before .before .pre .0 in
+    let former = c .before .before .before .before .live-before .ensures in
+    let next = c .before .before .before .live-from .ensures in
+    ((page-pos (h .page), found-sum h _ _ former next), omega (arith, c .none .ensures .count))
 
 with-requires : tie.Need-with-requires
 with-requires c κs = omega (arith, c .before .none .ensures .count, count-gap _ _ _ _ _ _ _ (c .with-gap .ensures))
 
 close-requires : tie.Need-close-requires
-close-requires c κs = let h = c .before .before .before .before .before .before .before .before .pre .0 in
-    (((page-pos (h .page), c .before .before .before .before .before .before .before .before .pre .1), omega (arith, c .before .before .none .ensures .count, count-gap _ _ _ _ _ _ _ (c .before .with-gap .ensures), count-more _ _ _ (c .with .ensures))), h .room)
+close-requires c κs =
+    let h = c .before .before .before .before .before .before .before .before .pre .0 in
+    let sum = c .before .before .before .before .before .before .before .before .pre .1 in
+    let gap = count-gap _ _ _ _ _ _ _ (c .before .with-gap .ensures) in
+    let piece = count-more _ _ _ (c .with .ensures) in
+    (((page-pos (h .page), sum), omega (arith, c .before .before .none .ensures .count, gap, piece)), h .room)
 
 planned-requires : tie.Need-planned-requires
-planned-requires c κs = let h = c .before .before .before .before .before .before .before .before .before .pre .0 in let ef = c .before .before .before .before .before .before .before .live-before .ensures in let et = c .before .before .before .before .before .before .live-from .ensures in
-    (((page-pos (h .page), c .before .before .before .before .before .before .before .before .before .pre .1), (found-low h _ _ ef et, found-high h _ _ ef et)), (h .few, c .close .ensures .few))
+planned-requires c κs =
+    let h = c .before .before .before .before .before .before .before .before .before .pre .0 in
+    let sum = c .before .before .before .before .before .before .before .before .before .pre .1 in
+    let former = c .before .before .before .before .before .before .before .live-before .ensures in
+    let next = c .before .before .before .before .before .before .live-from .ensures in
+    let low = found-low h _ _ former next in
+    let high = found-high h _ _ former next in
+    (((page-pos (h .page), sum), (low, high)), (h .few, c .close .ensures .few))
 
 returns : tie.Need-returns
-returns c = planned-with (c .before .before .before .before .before .before .before .before .before .before .pre .0) _ _ (c .before .before .before .before .before .before .before .before .live-before .ensures) (c .before .before .before .before .before .before .before .live-from .ensures) _ _ _ _ _ _ _ (c .before .before .before .before .before .before .class-of .ensures) (c .before .before .before .before .none .ensures) (c .before .before .before .with-gap .ensures) (c .before .before .with .ensures) (c .before .close .ensures) (c .planned .ensures)
+returns c =
+    let h = c .before .before .before .before .before .before .before .before .before .before .pre .0 in
+    let former = c .before .before .before .before .before .before .before .before .live-before .ensures in
+    let next = c .before .before .before .before .before .before .before .live-from .ensures in
+    let class = c .before .before .before .before .before .before .class-of .ensures in
+    let none = c .before .before .before .before .none .ensures in
+    let gap = c .before .before .before .with-gap .ensures in
+    let piece = c .before .before .with .ensures in
+    planned-with h _ _ former next _ _ _ _ _ _ _ class none gap piece (c .before .close .ensures) (c .planned .ensures)
 
 pub with-spec : {M : Type 1} → statement M
 with-spec =

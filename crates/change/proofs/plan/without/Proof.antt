@@ -8,7 +8,9 @@ use Rattle.change.proofs.plan.without.Statement.{statement}
 use Rattle.change.proofs.plan.without.Tie as tie
 
 live-before-requires : tie.Need-live-before-requires
-live-before-requires c κs = let h = c .before .pre in (omega (arith, h .low, h .high, h .room), plan-ends-fit h)
+live-before-requires c κs =
+    let h = c .before .pre in
+    (omega (arith, h .low, h .high, h .room), plan-ends-fit h)
 
 live-from-requires : tie.Need-live-from-requires
 live-from-requires c κs = search needs
@@ -17,15 +19,28 @@ none-requires : tie.Need-none-requires
 none-requires c κs = search needs
 
 close-requires : tie.Need-close-requires
-close-requires c κs = let h = c .before .before .before .before .pre in let s = found-sum h _ _ (c .before .before .live-before .ensures) (c .before .live-from .ensures) in
-    (((page-pos (h .page), s), omega (arith, c .none .ensures .count)), h .room)
+close-requires c κs =
+    let h = c .before .before .before .before .pre in
+    let former = c .before .before .live-before .ensures in
+    let next = c .before .live-from .ensures in
+    (((page-pos (h .page), found-sum h _ _ former next), omega (arith, c .none .ensures .count)), h .room)
 
 planned-requires : tie.Need-planned-requires
-planned-requires c κs = let h = c .before .before .before .before .before .pre in let ef = c .before .before .before .live-before .ensures in let et = c .before .before .live-from .ensures in
-    (((page-pos (h .page), found-sum h _ _ ef et), (found-low h _ _ ef et, found-high h _ _ ef et)), (h .few, c .close .ensures .few))
+planned-requires c κs =
+    let h = c .before .before .before .before .before .pre in
+    let former = c .before .before .before .live-before .ensures in
+    let next = c .before .before .live-from .ensures in
+    let low = found-low h _ _ former next in
+    let high = found-high h _ _ former next in
+    (((page-pos (h .page), found-sum h _ _ former next), (low, high)), (h .few, c .close .ensures .few))
 
 returns : tie.Need-returns
-returns c = planned-without (c .before .before .before .before .before .before .pre) _ _ (c .before .before .before .before .live-before .ensures) (c .before .before .before .live-from .ensures) _ _ _ (c .before .before .none .ensures) (c .before .close .ensures) (c .planned .ensures)
+returns c =
+    let h = c .before .before .before .before .before .before .pre in
+    let former = c .before .before .before .before .live-before .ensures in
+    let next = c .before .before .before .live-from .ensures in
+    let none = c .before .before .none .ensures in
+    planned-without h _ _ former next _ _ _ none (c .before .close .ensures) (c .planned .ensures)
 
 pub without-spec : {M : Type 1} → statement M
 without-spec =
