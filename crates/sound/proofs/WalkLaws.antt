@@ -136,7 +136,7 @@ tested P E v u last = entryb P E (statusOf (v .kind)) (v .at) (pieceOf u) last
 abbrev behindWords : ℕ → Walk → Words → Walk
 behindWords P v u = walkAt P (v .at + u .size) (u .kind)
 
-pub stepped-on : (P E : ℕ) (v : Walk) (u : Words) (last : Bool) → tested P E v u last ≡ true → stepped P E v u last ≡ On (behindWords P v u)
+stepped-on : (P E : ℕ) (v : Walk) (u : Words) (last : Bool) → tested P E v u last ≡ true → stepped P E v u last ≡ On (behindWords P v u)
 unfolding stepped
 stepped-on P E v u last h = rw h
 
@@ -184,17 +184,37 @@ module _ (P E : ℕ) (s : Status) (a : ℕ) (x : Piece) (last : Bool) where
   unfolding entryb
   entry-here h1 h2 h3 h4 = rw (eq-eqb (x .address) a h1, le-leb 1 (x .size) h2, le-leb (a + x .size) E (omega arith))
 
--- what is still to be tested of an entry that starts here, has a byte and ends within the file
-pub tested-here : (P E : ℕ) (v : Walk) (u : Words) (last : Bool) → Walked P E v → u .address ≡ v .at → 1 ≤ u .size → u .size ≤ E - v .at
-    → tested P E v u last
-    ≡ (shapeByLeft P (v .left) (statusOf (u .kind)) (u .size)
-    && (besideByLeft P (v .left) (statusOf (v .kind)) (statusOf (u .kind)) && cutb P (statusOf (u .kind)) (u .size) last))
-tested-here P E v u last q h1 h2 h3 =
-    entry-here P E (statusOf (v .kind)) (v .at) (pieceOf u) last h1 h2 (q .0 .1) h3
-    ∙ sym (rw (
-      shape-left P (q .0 .0) (v .at) (v .left) (q .1 .0) (statusOf (u .kind)) (u .size),
-      beside-left P (q .0 .0) (v .at) (v .left) (q .1 .0) (statusOf (v .kind)) (statusOf (u .kind)),
-    ))
+-- an entry that starts here, has a byte and ends within the file: what is still to be tested of it decides the step
+module _ (P E : ℕ) (v : Walk) (u : Words) (last : Bool) (q : Walked P E v) (at : u .address ≡ v .at) (some : 1 ≤ u .size)
+    (room : u .size ≤ E - v .at) where
+  abbrev shape : Bool
+  shape = shapeByLeft P (v .left) (statusOf (u .kind)) (u .size)
+
+  abbrev beside : Bool
+  beside = besideByLeft P (v .left) (statusOf (v .kind)) (statusOf (u .kind))
+
+  abbrev cut : Bool
+  cut = cutb P (statusOf (u .kind)) (u .size) last
+
+  tested-here : tested P E v u last ≡ (shape && (beside && cut))
+  tested-here =
+      entry-here P E (statusOf (v .kind)) (v .at) (pieceOf u) last at some (q .0 .1) room
+      ∙ sym (rw (
+        shape-left P (q .0 .0) (v .at) (v .left) (q .1 .0) (statusOf (u .kind)) (u .size),
+        beside-left P (q .0 .0) (v .at) (v .left) (q .1 .0) (statusOf (v .kind)) (statusOf (u .kind)),
+      ))
+
+  pub broken-shape : shape ≡ false → stepped P E v u last ≡ Broken
+  broken-shape e = stepped-broken P E v u last (tested-here ∙ rw e)
+
+  pub broken-beside : shape ≡ true → beside ≡ false → stepped P E v u last ≡ Broken
+  broken-beside d e = stepped-broken P E v u last (tested-here ∙ rw (d, e))
+
+  pub broken-cut : shape ≡ true → beside ≡ true → cut ≡ false → stepped P E v u last ≡ Broken
+  broken-cut d e f = stepped-broken P E v u last (tested-here ∙ rw (d, e, f))
+
+  pub steps-on : shape ≡ true → beside ≡ true → cut ≡ true → stepped P E v u last ≡ On (behindWords P v u)
+  steps-on d e f = stepped-on P E v u last (tested-here ∙ rw (d, e, f))
 
 -- ---- a turn of the loop
 

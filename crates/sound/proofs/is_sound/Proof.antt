@@ -18,19 +18,29 @@ returns : tie.Need-returns
 returns c = sym (local-ranges _ _ _ _ _ (fails (c .before .in-ranges .ensures) (c .if1 .taken)))
 
 entries-hold-requires : tie.Need-entries-hold-requires
-entries-hold-requires c κs = let r = ranges-true _ _ _ _ _ (passes (c .before .in-ranges .ensures) (c .if1 .left)) in (page-pos (r .page), count-fits r)
+entries-hold-requires c κs =
+    let ranges = ranges-true _ _ _ _ _ (passes (c .before .in-ranges .ensures) (c .if1 .left)) in
+    (page-pos (ranges .page), count-fits ranges)
 
 returns-2 : tie.Need-returns-2
-returns-2 c = sym (local-entries _ _ _ _ _ (passes (c .before .before .before .in-ranges .ensures) (c .before .before .if1 .left)) (fails (c .before .entries-hold .ensures) (c .if2 .taken)))
+returns-2 c =
+    let ranges = passes (c .before .before .before .in-ranges .ensures) (c .before .before .if1 .left) in
+    let entries = fails (c .before .entries-hold .ensures) (c .if2 .taken) in
+    sym (local-entries _ _ _ _ _ ranges entries)
 
 mul-zeros-from : tie.Need-mul-zeros-from
-mul-zeros-from c = let r = ranges-true _ _ _ _ _ (passes (c .before .before .before .in-ranges .ensures) (c .before .before .if1 .left)) in omega (arith, count-fits r, r .slice .largest)
+mul-zeros-from c =
+    let ranges = ranges-true _ _ _ _ _ (passes (c .before .before .before .in-ranges .ensures) (c .before .before .if1 .left)) in
+    omega (arith, count-fits ranges, ranges .slice .largest)
 
 zeros-from-requires : tie.Need-zeros-from-requires
 zeros-from-requires c κs = search needs
 
 returns-3 : tie.Need-returns-3
-returns-3 c = c .zeros-from .ensures ∙ sym (local-zeros _ _ _ _ _ (passes (c .before .before .before .before .in-ranges .ensures) (c .before .before .before .if1 .left)) (passes (c .before .before .entries-hold .ensures) (c .before .if2 .left)))
+returns-3 c =
+    let ranges = passes (c .before .before .before .before .in-ranges .ensures) (c .before .before .before .if1 .left) in
+    let entries = passes (c .before .before .entries-hold .ensures) (c .before .if2 .left) in
+    c .zeros-from .ensures ∙ sym (local-zeros _ _ _ _ _ ranges entries)
 
 pub is-sound-spec : {M : Type 1} → statement M
 is-sound-spec =

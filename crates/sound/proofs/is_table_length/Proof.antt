@@ -18,14 +18,18 @@ mul-if2 c = search needs
 
 returns-2 : tie.Need-returns-2
 unfolding tableLengthb
-returns-2 c = rw (eq-eqb (c .before .before .args .len % entryWords) 0 (c .before .if1 .left), lt-leb (leastCapacity * entryWords) (c .before .before .args .len) (c .if2 .taken))
+returns-2 c =
+    let len = c .before .before .args .len in
+    rw (eq-eqb (len % entryWords) 0 (c .before .if1 .left), lt-leb (leastCapacity * entryWords) len (c .if2 .taken))
 
 mul-result : tie.Need-mul-result
 mul-result c = search needs
 
 returns-3 : tie.Need-returns-3
 unfolding tableLengthb
-returns-3 c = rw (eq-eqb (c .before .before .args .len % entryWords) 0 (c .before .if1 .left), le-leb (leastCapacity * entryWords) (c .before .before .args .len) (c .if2 .left))
+returns-3 c =
+    let len = c .before .before .args .len in
+    rw (eq-eqb (len % entryWords) 0 (c .before .if1 .left), le-leb (leastCapacity * entryWords) len (c .if2 .left))
 
 pub is-table-length-spec : {M : Type 1} → statement M
 is-table-length-spec = tie.close (tie.spec returns mul-if2 returns-2 mul-result returns-3)

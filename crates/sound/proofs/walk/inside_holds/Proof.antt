@@ -20,10 +20,16 @@ is-free-requires-2 : tie.Need-is-free-requires-2
 is-free-requires-2 c κs = search needs
 
 returns-2 : tie.Need-returns-2
-returns-2 c = rw (passes (c .before .before .before .before .same-class .ensures) (c .before .before .before .if1 .left), sym (c .before .before .is-free .ensures) ∙ c .before .if2 .taken) (ap not (c .is-free2 .ensures))
+returns-2 c =
+    let same = passes (c .before .before .before .before .same-class .ensures) (c .before .before .before .if1 .left) in
+    let free = sym (c .before .before .is-free .ensures) ∙ c .before .if2 .taken in
+    rw (same, free) (ap not (c .is-free2 .ensures))
 
 returns-3 : tie.Need-returns-3
-returns-3 c = rw (passes (c .before .before .before .same-class .ensures) (c .before .before .if1 .left), sym (c .before .is-free .ensures) ∙ c .if2 .left)
+returns-3 c =
+    let same = passes (c .before .before .before .same-class .ensures) (c .before .before .if1 .left) in
+    let live = sym (c .before .is-free .ensures) ∙ c .if2 .left in
+    rw (same, live)
 
 pub inside-holds-spec : {M : Type 1} → statement M
 inside-holds-spec = tie.close (tie.spec same-class-requires returns is-free-requires is-free-requires-2 returns-2 returns-3)

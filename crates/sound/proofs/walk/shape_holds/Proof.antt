@@ -13,19 +13,27 @@ small-holds-requires : tie.Need-small-holds-requires
 small-holds-requires c κs = search needs
 
 returns : tie.Need-returns
-returns c = c .small-holds .ensures ∙ sym (shape-small _ _ _ _ (sym (c .before .before .is-small .ensures) ∙ c .before .if1 .taken))
+returns c =
+    let small = sym (c .before .before .is-small .ensures) ∙ c .before .if1 .taken in
+    c .small-holds .ensures ∙ sym (shape-small _ _ _ _ small)
 
 is-free-requires : tie.Need-is-free-requires
 is-free-requires c κs = search needs
 
 returns-2 : tie.Need-returns-2
-returns-2 c = sym (shape-free _ _ _ _ (sym (c .before .before .before .is-small .ensures) ∙ c .before .before .if1 .left) (sym (c .before .is-free .ensures) ∙ c .if2 .taken))
+returns-2 c =
+    let large = sym (c .before .before .before .is-small .ensures) ∙ c .before .before .if1 .left in
+    let free = sym (c .before .is-free .ensures) ∙ c .if2 .taken in
+    sym (shape-free _ _ _ _ large free)
 
 large-holds-requires : tie.Need-large-holds-requires
 large-holds-requires c κs = search needs
 
 returns-3 : tie.Need-returns-3
-returns-3 c = c .large-holds .ensures ∙ sym (shape-large _ _ _ _ (sym (c .before .before .before .before .is-small .ensures) ∙ c .before .before .before .if1 .left) (sym (c .before .before .is-free .ensures) ∙ c .before .if2 .left))
+returns-3 c =
+    let large = sym (c .before .before .before .before .is-small .ensures) ∙ c .before .before .before .if1 .left in
+    let live = sym (c .before .before .is-free .ensures) ∙ c .before .if2 .left in
+    c .large-holds .ensures ∙ sym (shape-large _ _ _ _ large live)
 
 pub shape-holds-spec : {M : Type 1} → statement M
 shape-holds-spec =
