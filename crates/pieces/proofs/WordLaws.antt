@@ -244,7 +244,8 @@ laid-more w i es x fits =
 
 -- one more of a list
 pub laid-next : (w : List ℕ) (i : ℕ) (list : List Piece) (k : ℕ) (d : Piece) (t t′ : List ℕ) → k < length list
-    → (i + k + 1) * entryWords ≤ length w → t ≡ laid w i (take k list) → t′ ≡ laid t (i + k) (getD list k d ∷ []) → t′ ≡ laid w i (take (k + 1) list)
+    → (i + k + 1) * entryWords ≤ length w → t ≡ laid w i (take k list) → t′ ≡ laid t (i + k) (getD list k d ∷ [])
+    → t′ ≡ laid w i (take (k + 1) list)
 laid-next w i list k d t t′ lt fits is to =
     let l : length (take k list) ≡ k = length-take-le k list (omega arith) in
     let more : laid (laid w i (take k list)) (i + length (take k list)) (getD list k d ∷ []) ≡ laid w i (take k list ++ (getD list k d ∷ [])) =

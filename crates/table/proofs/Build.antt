@@ -169,7 +169,8 @@ module _ (P : ℕ) (pos : 0 < P) where
         entry x = entry-small (f .own x) (omega arith) (within x) (λ nb. absurd (nb (f .at x))) (λ nb i. nb (f .at x))
 
     put-large : {s : Status} {l h : ℕ} → High b m l h → (l < b → ¬ Border P l → classOf s ≡ Large)
-        → (l < b → ¬ Border P l → IsFree s → ⊥) → (s ≡ Free Large → ⊥) → (l ≡ b → ¬ Border P b → classOf s ≡ m) → ChainFrom P E s l (free Large l h ++ (free m h b ++ es))
+        → (l < b → ¬ Border P l → IsFree s → ⊥) → (s ≡ Free Large → ⊥) → (l ≡ b → ¬ Border P b → classOf s ≡ m)
+        → ChainFrom P E s l (free Large l h ++ (free m h b ++ es))
     put-large {s} {l} {h} f c i u g =
         free-chain Large l h (free m h b ++ es) (f .l-h)
         (λ x. entry-large (omega arith) (c (omega (arith, f .h-b))) (i (omega (arith, f .h-b))) u (λ q. absurd (filled (append-right (free m h b) es q))))

@@ -7,7 +7,8 @@ use mathlib.Core.Logic.{⊎-elim}
 use mathlib.Core.Path.{_≡_, sym, ap, _∙_}
 use native.Mathlib.Nat.{sub-zero}
 use borrow.Author.Needs.{needs}
-use Rattle.choose.proofs.ChooseLaws.{best-of-better, best-of-larger, best-of-misfit, best-next, best-end, best-exact, fits-other, fits-free, fits-least}
+use Rattle.choose.proofs.ChooseLaws.{best-of-better, best-of-larger, best-of-misfit, best-next, best-end, best-exact}
+use Rattle.choose.proofs.ChooseLaws.{fits-other, fits-free, fits-least}
 use Rattle.choose.specs.Choose.{fitsIn, bestOf, best}
 use Rattle.choose.specs.declared.Chosen.the-variants.{At, Nothing}
 use Rattle.pieces.specs.declared.Piece.{Piece}
@@ -52,37 +53,42 @@ walk-again : tie.Need-walk-again Inv-walk μ-walk
 walk-again c =
     let a = c .before .before .before .before .before .before .args in
     let k = c .before .before .before .before .walk in
+    let among = c .before .before .before .walk-test .left in
     let read = c .before .before .words-at in
     let x : Piece = pieceOf (read .result) in
+    let said = sym (entry-said (a .table .now) (k .i) (read .result) (read .ensures)) in
     let free = sym (c .before .is-free-of .ensures) in
     let to : bestOf (fitsIn (a .p) (a .class) (a .s)) (k .i) (k .held) x ≡ c .if1 .held =
     ⊎-elim
-    (λ w. best-of-better _ _ _ x (fits-free _ _ _ x (free ∙ w .0 .taken) ∙ (sym (w .3 .ensures) ∙ w .4 .taken)) (sym (w .1 .ensures) ∙ w .2 .taken)
-    ∙ (ap (At (k .i)) (sym (w .5 .ensures)) ∙ sym (w .8)))
+    (λ w. let fit = fits-free _ _ _ x (free ∙ w .0 .taken) ∙ (sym (w .3 .ensures) ∙ w .4 .taken) in
+    best-of-better _ _ _ x fit (sym (w .1 .ensures) ∙ w .2 .taken) ∙ (ap (At (k .i)) (sym (w .5 .ensures)) ∙ sym (w .8)))
     (⊎-elim (λ w. best-of-misfit _ _ _ x (fits-free _ _ _ x (free ∙ w .0 .taken) ∙ (sym (w .3 .ensures) ∙ w .4 .left)) ∙ sym (w .5))
     (⊎-elim (λ w. best-of-larger _ _ _ x (sym (w .1 .ensures) ∙ w .2 .left) ∙ sym (w .3))
     (λ w. best-of-misfit _ _ _ x (fits-other _ _ _ x (free ∙ w .0 .left)) ∙ sym (w .1)))) (c .if1 .came) in
-    (search needs, sym (best-next _ _ _ _ _ (c .before .before .before .walk-test .left) x (sym (entry-said _ _ (read .result) (read .ensures))) _ to) ∙ k .inv .1)
+    (search needs, sym (best-next _ _ _ _ _ among x said _ to) ∙ k .inv .1)
 
 returns : tie.Need-returns Inv-walk μ-walk
 returns c = sym (best-end _ _ _ _ _ (c .walk-test .taken)) ∙ c .before .walk .inv .1
 
 returns-2 : tie.Need-returns-2 Inv-walk μ-walk
 returns-2 c =
-    let start = c .before .before .before .before .before .before .before .before .before .before .before .before .before in
+    let first = c .before .before .before .before .before .before .before in
+    let start = first .before .before .before .before .before .before in
     let a = start .args in
-    let k = c .before .before .before .before .before .before .before .before .before .before .before .walk in
-    let read = c .before .before .before .before .before .before .before .before .before .words-at in
+    let k = first .before .before .before .before .walk in
+    let among = first .before .before .before .walk-test .left in
+    let read = first .before .before .words-at in
     let x : Piece = pieceOf (read .result) in
+    let said = sym (entry-said (a .table .now) (k .i) (read .result) (read .ensures)) in
     let f : Piece → Bool = fitsIn (a .p) (a .class) (a .s) in
-    let free = sym (c .before .before .before .before .before .before .before .before .is-free-of .ensures) ∙ c .before .before .before .before .before .before .before .if1 .taken in
+    let free = sym (first .before .is-free-of .ensures) ∙ first .if1 .taken in
     let beat = sym (c .before .before .before .before .before .before .beats .ensures) ∙ c .before .before .before .before .before .if2 .taken in
     let fit = fits-free _ _ _ x free ∙ (sym (c .before .before .before .before .room .ensures) ∙ c .before .before .before .if3 .taken) in
     let least : (y : Piece) → f y ≡ true → a .s ≤ y .size = λ y. fits-least _ _ _ y (start .pre .0) in
     let to : bestOf f (k .i) (k .held) x ≡ At (k .i) x = best-of-better _ _ _ x fit beat in
     ap (At (k .i)) (c .before .before .piece-of .ensures)
     ∙ (sym (best-exact f (a .s) least (k .i) x (c .if4 .taken) _ _)
-    ∙ (sym (best-next _ _ _ _ _ (c .before .before .before .before .before .before .before .before .before .before .walk-test .left) x (sym (entry-said _ _ (read .result) (read .ensures))) _ to) ∙ k .inv .1))
+    ∙ (sym (best-next _ _ _ _ _ among x said _ to) ∙ k .inv .1))
 
 pub best-place-spec : {M : Type 1} → statement M
 best-place-spec =

@@ -1,13 +1,9 @@
--- `choose::place::large_place_for` meets its contract: the entry that was found fits, so its first border lies within it and is a number of 64 bits.
+-- `choose::place::large_place_for` meets its contract: the entry that was found fits, so its first border lies within it and is a number of
+-- 64 bits.
 -- Assumes nothing.
-use Prim.Native.Nat.{ℕ}
-use mathlib.Core.Path.{sym, ap, _∙_}
 use native.Mathlib.Omega.{arith}
 use borrow.Author.Needs.{needs}
-use Rattle.choose.proofs.PlaceForLaws.{border-fits}
-use Rattle.choose.specs.Place.{largePlaceFor, inLarge}
-use Rattle.choose.specs.declared.place.Place.the-variants.{Section}
-use Rattle.pages.proofs.PageLaws.{upFrom-up}
+use Rattle.choose.proofs.PlaceForLaws.{border-fits, large-section, large-end}
 use Rattle.choose.proofs.place.large_place_for.Statement.{statement}
 use Rattle.choose.proofs.place.large_place_for.Tie as tie
 
@@ -21,21 +17,29 @@ enum-told : tie.Need-enum-told
 enum-told c = search needs
 
 returns : tie.Need-returns
-unfolding largePlaceFor
-returns c = sym (ap (inLarge (c .before .before .before .before .args .p)) (sym (c .before .before .best-place .ensures) ∙ c .enum-told .given .1))
+returns c =
+    let start = c .before .before .before .before in
+    let a = start .args in
+    large-end (a .p) (start .pre .0 .0) (a .s) (a .table .now) (a .n) _ (c .before .before .best-place .ensures) (c .enum-told .given .1)
 
 up-from-requires : tie.Need-up-from-requires
 up-from-requires c κs = search needs
 
 add-t10 : tie.Need-add-t10
-add-t10 c = let a = c .before .before .before .before .before .before .before .args in let pre = c .before .before .before .before .before .before .before .pre in
-    omega (arith, c .before .up-from .ensures, border-fits (a .p) (pre .0 .0) (a .s) (a .table .now) (a .n) _ _ (pre .1) (sym (c .before .before .before .before .before .best-place .ensures) ∙ c .before .before .before .i .given .1))
+add-t10 c =
+    let start = c .before .before .before .before .before .before .before in
+    let a = start .args in
+    let found = c .before .before .before .before .before .best-place .ensures in
+    let fits = border-fits (a .p) (start .pre .0 .0) (a .s) (a .table .now) (a .n) _ found (start .pre .1) _ _ (c .before .before .before .i .given .1) in
+    omega (arith, c .before .up-from .ensures, fits)
 
 returns-2 : tie.Need-returns-2
-unfolding largePlaceFor
-returns-2 c = let a = c .before .before .before .before .before .before .before .args in
-    ap (λ (b : ℕ). Section (c .before .before .before .i .given .0 .0) b) (rw (c .before .up-from .ensures) (upFrom-up (a .p) (c .before .before .before .before .before .before .before .pre .0 .0) _))
-    ∙ sym (ap (inLarge (a .p)) (sym (c .before .before .before .before .before .best-place .ensures) ∙ c .before .before .before .i .given .1))
+returns-2 c =
+    let start = c .before .before .before .before .before .before .before in
+    let a = start .args in
+    let found = c .before .before .before .before .before .best-place .ensures in
+    let at = c .before .before .before .i .given .1 in
+    large-section (a .p) (start .pre .0 .0) (a .s) (a .table .now) (a .n) _ found _ _ _ at (c .before .up-from .ensures)
 
 pub large-place-for-spec : {M : Type 1} → statement M
 large-place-for-spec =

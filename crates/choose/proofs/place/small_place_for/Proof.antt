@@ -1,9 +1,7 @@
 -- `choose::place::small_place_for` meets its contract: each return is the definition at the answer of the walk.
 -- Assumes nothing.
-use mathlib.Core.Path.{sym, ap, _∙_}
 use borrow.Author.Needs.{needs}
-use Rattle.choose.specs.Place.{smallPlaceFor, inSmall, asPage, largePlaceFor}
-use Rattle.pieces.specs.Words.{entries}
+use Rattle.choose.proofs.PlaceForLaws.{small-section, small-page}
 use Rattle.choose.proofs.place.small_place_for.Statement.{statement}
 use Rattle.choose.proofs.place.small_place_for.Tie as tie
 
@@ -23,14 +21,15 @@ as-page-requires : tie.Need-as-page-requires
 as-page-requires c κs = search needs
 
 returns : tie.Need-returns
-unfolding smallPlaceFor
-returns c = let a = c .before .before .before .before .before .before .args in
-    (c .as-page .ensures ∙ ap asPage (c .before .large-place-for .ensures)) ∙ sym (ap (inSmall (asPage (largePlaceFor (a .p) (a .p) (entries (a .table .now) 0 (a .n))))) (sym (c .before .before .before .before .best-place .ensures) ∙ c .before .before .enum-told .given .1))
+returns c =
+    let found = c .before .before .before .before .best-place .ensures in
+    let none = c .before .before .enum-told .given .1 in
+    small-page _ _ _ _ _ found _ _ none (c .as-page .ensures) (c .before .large-place-for .ensures)
 
 returns-2 : tie.Need-returns-2
-unfolding smallPlaceFor
-returns-2 c = let a = c .before .before .before .before .before .args in
-    sym (ap (inSmall (asPage (largePlaceFor (a .p) (a .p) (entries (a .table .now) 0 (a .n))))) (sym (c .before .before .before .best-place .ensures) ∙ c .before .i .given .1))
+returns-2 c =
+    let found = c .before .before .before .best-place .ensures in
+    small-section _ _ _ _ _ found _ _ (c .before .i .given .1)
 
 pub small-place-for-spec : {M : Type 1} → statement M
 small-place-for-spec =
