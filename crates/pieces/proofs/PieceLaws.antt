@@ -6,7 +6,7 @@
 use Prim.Native.Nat.{ℕ, zero, suc, _≤_, _<_}
 use mathlib.Core.Bool.{true, false}
 use mathlib.Core.List.{List, _∷_, _++_, List·Memᴰ, List·Memᴰ·head, List·Memᴰ·tail}
-use mathlib.Core.Path.{_≡_, refl, sym, ap}
+use mathlib.Core.Path.{_≡_, refl, sym, ap, _∙_}
 use native.Mathlib.Omega.{arith}
 use lib.Dec.{leb}
 use lib.ListN.{length, take, drop}
@@ -81,6 +81,12 @@ kind-low k h = rw (lt-leb 1 k h)
 
 pub kind-high : (k : ℕ) → 1 ≤ k → kindb k ≡ leb k 6
 kind-high k h = rw (le-leb 1 k h)
+
+pub kind-live : {s : Status} {k c : Class} → s ≡ Live k → k ≡ c → kindOf s ≡ kindOf (Live c)
+kind-live e f = ap kindOf e ∙ ap (λ (m : Class). kindOf (Live m)) f
+
+pub kind-free : {s : Status} {k c : Class} → s ≡ Free k → k ≡ c → kindOf s ≡ kindOf (Free c)
+kind-free e f = ap kindOf e ∙ ap (λ (m : Class). kindOf (Free m)) f
 
 pub status-kind : (s : Status) → statusOf (kindOf s) ≡ s
 unfolding statusOf
