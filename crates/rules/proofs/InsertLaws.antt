@@ -1,5 +1,6 @@
 -- Where a piece stands that is inserted among live pieces by its address.
 --
+--   Each Q ps                    Q holds of each of ps
 --   Below b ps, Above b ps       each of ps starts at b or below it; above b
 --   insert-first, insert-later   a piece stands before those that start above it, and behind one that does not
 --   insert-between               so it stands between the two
@@ -7,7 +8,7 @@
 --   good-at, above-good, below-good      where good live pieces start
 --   insert-at                    a piece stands where good live pieces have it
 --
---   lives-below, lives-above     where the live ones among the entries of words start
+--   lives-each                   what holds of entries of words holds of the live ones among them
 --   insert-halves                a piece stands between the live ones of the first i entries and the others
 --   insert-within                a piece within a free entry of a table
 --   insert-last                  a piece at the end of the file
@@ -33,26 +34,28 @@ use Rattle.table.proofs.TilingLaws.{rising, ends-below}
 use Rattle.table.specs.Fill.{lives, GoodFrom, none, next}
 use Rattle.table.specs.Sound.{Tiles}
 
-pub data Below (b : ℕ) : List Piece → Type 0 where
-  below-none : Below b []
-  below-more : {x : Piece} {ps : List Piece} → x .address ≤ b → Below b ps → Below b (x ∷ ps)
+pub data Each (Q : Piece → Type 0) : List Piece → Type 0 where
+  each-none : Each Q []
+  each-more : {x : Piece} {ps : List Piece} → Q x → Each Q ps → Each Q (x ∷ ps)
 
-pub data Above (b : ℕ) : List Piece → Type 0 where
-  above-none : Above b []
-  above-more : {x : Piece} {ps : List Piece} → b < x .address → Above b ps → Above b (x ∷ ps)
+abbrev pub Below : ℕ → List Piece → Type 0
+Below b ps = Each (λ x. x .address ≤ b) ps
+
+abbrev pub Above : ℕ → List Piece → Type 0
+Above b ps = Each (λ x. b < x .address) ps
 
 pub insert-first : (x : Piece) {ps : List Piece} → Above (x .address) ps → insert x ps ≡ x ∷ ps
 unfolding insert
-insert-first x above-none = refl
-insert-first x (above-more {x = y} l h) = rw (lt-ltb (x .address) (y .address) l)
+insert-first x each-none = refl
+insert-first x (each-more {x = y} l h) = rw (lt-ltb (x .address) (y .address) l)
 
 pub insert-later : (x y : Piece) (ps : List Piece) → y .address ≤ x .address → insert x (y ∷ ps) ≡ y ∷ insert x ps
 unfolding insert
 insert-later x y ps l = rw (le-ltb (x .address) (y .address) l)
 
 pub insert-between : (x : Piece) {ps qs : List Piece} → Below (x .address) ps → Above (x .address) qs → insert x (ps ++ qs) ≡ ps ++ (x ∷ qs)
-insert-between x below-none h = insert-first x h
-insert-between x {qs = qs} (below-more {x = y} {ps = ps} l g) h =
+insert-between x each-none h = insert-first x h
+insert-between x {qs = qs} (each-more {x = y} {ps = ps} l g) h =
     insert-later x y (ps ++ qs) l ∙ ap (λ (l : List Piece). y ∷ l) (insert-between x g h)
 
 -- ---- among good live pieces
@@ -64,14 +67,14 @@ module _ (P : ℕ) (pos : 0 < P) where
 
   -- those behind a lie above what is before it
   pub above-good : {k : Class} {a b : ℕ} {ps : List Piece} → b < a → GoodFrom P k a ps → Above b ps
-  above-good l none = above-none
+  above-good l none = each-none
   above-good {b = b} l (next {m = m} {b = c} {z = z} d w g) =
       let h : b < c = omega (arith, apart-le P pos d) in
-      above-more {x = piece c z (Live m)} h (above-good (omega arith) g)
+      each-more {x = piece c z (Live m)} h (above-good (omega arith) g)
 
   pub below-good : {k : Class} {a : ℕ} (ps : List Piece) (p : Piece) (qs : List Piece) → GoodFrom P k a (ps ++ (p ∷ qs)) → Below (p .address) ps
-  below-good [] p qs g = below-none
-  below-good (x ∷ ps) p qs (next d w g) = below-more {x = x} (omega (arith, good-at ps p qs g)) (below-good ps p qs g)
+  below-good [] p qs g = each-none
+  below-good (x ∷ ps) p qs (next d w g) = each-more {x = x} (omega (arith, good-at ps p qs g)) (below-good ps p qs g)
 
   rest-above : {k : Class} {a : ℕ} (ps : List Piece) (p : Piece) (qs : List Piece) → GoodFrom P k a (ps ++ (p ∷ qs)) → Above (p .address) qs
   rest-above [] p qs (next d w g) = above-good (omega (arith, w .some)) g
@@ -83,23 +86,15 @@ module _ (P : ℕ) (pos : 0 < P) where
 
 -- ---- among the live ones of a table
 
--- the live ones of k entries from entry j on
-pub lives-below : (w : List ℕ) (b j k : ℕ) → ((i : ℕ) → j ≤ i → i < j + k → entryAt w i .address ≤ b) → Below b (lives (entries w j k))
+-- what holds of k entries from entry j on holds of the live ones
+pub lives-each : (Q : Piece → Type 0) (w : List ℕ) (j k : ℕ) → ((i : ℕ) → j ≤ i → i < j + k → Q (entryAt w i))
+    → Each Q (lives (entries w j k))
 unfolding entries lives
-lives-below w b j zero h = below-none
-lives-below w b j (suc k) h = go (entryAt w j .status) refl (lives-below w b (suc j) k (λ i l m. h i (omega arith) (omega arith)))
+lives-each Q w j zero h = each-none
+lives-each Q w j (suc k) h = go (entryAt w j .status) refl (lives-each Q w (suc j) k (λ i l m. h i (omega arith) (omega arith)))
   where
-    go : (t : Status) → entryAt w j .status ≡ t → Below b (lives (entries w (suc j) k)) → Below b (lives (entryAt w j ∷ entries w (suc j) k))
-    go (Live c) e r = rw (lives-live (entryAt w j) (entries w (suc j) k) e) (below-more (h j (omega arith) (omega arith)) r)
-    go (Free c) e r = rw (lives-free (entryAt w j) (entries w (suc j) k) e) r
-
-pub lives-above : (w : List ℕ) (b j k : ℕ) → ((i : ℕ) → j ≤ i → i < j + k → b < entryAt w i .address) → Above b (lives (entries w j k))
-unfolding entries lives
-lives-above w b j zero h = above-none
-lives-above w b j (suc k) h = go (entryAt w j .status) refl (lives-above w b (suc j) k (λ i l m. h i (omega arith) (omega arith)))
-  where
-    go : (t : Status) → entryAt w j .status ≡ t → Above b (lives (entries w (suc j) k)) → Above b (lives (entryAt w j ∷ entries w (suc j) k))
-    go (Live c) e r = rw (lives-live (entryAt w j) (entries w (suc j) k) e) (above-more (h j (omega arith) (omega arith)) r)
+    go : (t : Status) → entryAt w j .status ≡ t → Each Q (lives (entries w (suc j) k)) → Each Q (lives (entryAt w j ∷ entries w (suc j) k))
+    go (Live c) e r = rw (lives-live (entryAt w j) (entries w (suc j) k) e) (each-more (h j (omega arith) (omega arith)) r)
     go (Free c) e r = rw (lives-free (entryAt w j) (entries w (suc j) k) e) r
 
 pub insert-halves : (w : List ℕ) (n i : ℕ) (x : Piece) → i ≤ n → Below (x .address) (lives (entries w 0 i))
@@ -115,12 +110,12 @@ module _ {E : ℕ} (w : List ℕ) (n : ℕ) (t : Tiles E 0 (entries w 0 n)) wher
       let a : f .address ≡ entryAt w i .address = ap (λ (v : Piece). v .address) is in
       let d : behind f ≡ behind (entryAt w i) = ap behind is in
       insert-halves w n i x (omega arith)
-      (lives-below w (x .address) 0 i (λ k m h. omega (arith, rising w t k i (omega arith) l)))
+      (lives-each (λ y. y .address ≤ x .address) w 0 i (λ k m h. omega (arith, rising w t k i (omega arith) l)))
       (rw (entries-next w n i l, lives-free (entryAt w i) (entries w (i + 1) (n - (i + 1))) free)
-      (lives-above w (x .address) (i + 1) (n - (i + 1)) (λ k m h. omega (arith, rising w t i k (omega arith) (omega arith)))))
+      (lives-each (λ y. x .address < y .address) w (i + 1) (n - (i + 1)) (λ k m h. omega (arith, rising w t i k (omega arith) (omega arith)))))
 
   pub insert-last : (x : Piece) → x .address ≡ E → insert x (lives (entries w 0 n)) ≡ livesWith w n n n (x ∷ [])
   insert-last x e =
       insert-halves w n n x (omega arith)
-      (lives-below w (x .address) 0 n (λ i l m. omega (arith, ends-below w t i (omega arith))))
-      (lives-above w (x .address) n (n - n) (λ i l m. absurd (omega arith)))
+      (lives-each (λ y. y .address ≤ x .address) w 0 n (λ i l m. omega (arith, ends-below w t i (omega arith))))
+      (lives-each (λ y. x .address < y .address) w n (n - n) (λ i l m. absurd (omega arith)))
