@@ -12,7 +12,6 @@ use native.Mathlib.Numerals.{add-one}
 use native.Mathlib.Omega.{arith}
 use Rattle.change.specs.Change.{formerStep, formerOf, nextOf}
 use Rattle.change.specs.declared.around.Former.{Former}
-pub use Rattle.pieces.proofs.WordLaws.{entries-parts}
 use Rattle.pieces.proofs.WordLaws.{entries-snoc}
 use Rattle.pieces.specs.Pieces.{piece, behind, classOf, freeb}
 use Rattle.pieces.specs.Words.{entryAt, entries}
@@ -23,7 +22,7 @@ use Rattle.pieces.specs.declared.Status.the-variants.{Live, Free}
 use Rattle.pieces.specs.declared.Status.{Status}
 use Rattle.rules.proofs.SpliceLaws.{EndsLive, ends-none, ends-live, ends-free, StartsLive, starts-none, starts-live}
 use Rattle.rules.specs.Between.{lastClass}
-pub use Rattle.table.proofs.LivesLaws.{lives-live, lives-free}
+use Rattle.table.proofs.LivesLaws.{lives-live, lives-free}
 use Rattle.table.proofs.LivesLaws.{lives-append}
 use Rattle.table.specs.Fill.{lives, lastEnd}
 

@@ -26,12 +26,12 @@ fn close(few: Few, p: u64, k: pieces::Class, a: u64, to: usize, n: usize, table:
     requires { ⌜ (((0 < p) × (a + p ≤ 2 ^ 64)) × (few .count + gapPieces ≤ mostPieces)) × (n * entryWords ≤ length (now table)) ⌝ }
     ensures { λ r. ⌜ Holding r (held few ++ closing p k a (entries (now (table .entry)) to (n - to))) ⌝ }
 {
-    if to < n {
-        let next = pieces::piece_at(table, to);
-        let status = next.status;
-        return few.with_gap(p, k, a, next.address, pieces::class_of(status));
+    if n <= to {
+        return few.with_tail(p, k, a);
     }
-    few.with_tail(p, k, a)
+    let next = pieces::piece_at(table, to);
+    let status = next.status;
+    few.with_gap(p, k, a, next.address, pieces::class_of(status))
 }
 
 // Where the file ends if the last piece before entry `to` ends at a.

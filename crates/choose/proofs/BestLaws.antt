@@ -22,8 +22,7 @@ use Rattle.pieces.specs.declared.Status.{Status}
 use Rattle.pieces.specs.declared.Status.the-variants.{Live, Free}
 use Rattle.pieces.specs.declared.Piece.{Piece}
 use Rattle.pieces.specs.Pieces.{piece, behind, freeOf, Small, EntryIs, entry-here, entry-later}
-pub use Rattle.pieces.proofs.PieceLaws.{entry-among}
-pub use Rattle.pieces.proofs.WordLaws.{entry-read}
+use Rattle.pieces.proofs.PieceLaws.{entry-among}
 use Rattle.pieces.proofs.PieceLaws.{same-class, class-same}
 use Rattle.table.specs.Sound.{Tiles, tile}
 use Rattle.choose.specs.declared.Chosen.{Chosen}

@@ -2,3 +2,4 @@
 pub mod ChooseLaws
 pub mod BestLaws
 pub mod PlaceForLaws
+pub mod LiesLaws

@@ -5,16 +5,18 @@
 --   smallPlaceFor P k s es    of a small piece: the start of the best free small entry of its class; else one page by the large rule for P bytes
 --   inLarge, inSmall      the place in the entry that was found, if one was
 --   asPage q              the same place, found as a page for a small piece
---   placeAddress E q       the address of the place q, in a file that ends at E
+--   atEndb q              the place q is at the end
+--   placeAddress E q      the address of the place q, in a file that ends at E
+--   placeEntry n q        the entry before which a piece at q stands, of n entries
 --
 -- Assumes nothing. What the best section is, is said twice in Choose.antt.
 use Prim.Native.Nat.{ℕ}
+use mathlib.Core.Bool.{Bool, true, false}
 use mathlib.Core.List.{List}
 use Rattle.pages.specs.Pages.{up}
 use Rattle.pieces.specs.declared.Class.{Class}
 use Rattle.pieces.specs.declared.Class.the-variants.{SmallMetadata, SmallRaw, Large}
 use Rattle.pieces.specs.declared.Piece.{Piece}
-pub use Rattle.pieces.specs.Words.{EndsFit}
 use Rattle.choose.specs.Choose.{fitsIn, best}
 use Rattle.choose.specs.declared.Chosen.{Chosen}
 use Rattle.choose.specs.declared.Chosen.the-variants.{At, Nothing}
@@ -49,3 +51,13 @@ abbrev pub placeAddress : ℕ → Place → ℕ
 placeAddress E (Section i b) = b
 placeAddress E (Page i b) = b
 placeAddress E End = E
+
+abbrev pub placeEntry : ℕ → Place → ℕ
+placeEntry n (Section i b) = i
+placeEntry n (Page i b) = i
+placeEntry n End = n
+
+abbrev pub atEndb : Place → Bool
+atEndb (Section i b) = false
+atEndb (Page i b) = false
+atEndb End = true

@@ -3,7 +3,7 @@ ghost use mathlib.Core.Path.{_≡_};
 ghost use Prim.Native.Nat.{_*_, _≤_, _<_};
 ghost use lib.ListN.{length};
 ghost use Rattle.pieces.specs.Words.{entryWords, entries, EndsFit};
-ghost use Rattle.choose.specs.Place.{asPage, largePlaceFor, smallPlaceFor, placeFor};
+ghost use Rattle.choose.specs.Place.{asPage, largePlaceFor, smallPlaceFor, placeFor, atEndb, placeAddress, placeEntry};
 use crate::Chosen;
 use crate::best_place;
 use pieces::Class;
@@ -59,5 +59,38 @@ pub fn place_for(p: u64, class: Class, s: u64, n: usize, table: &[u64]) -> Place
         Class::SmallMetadata => small_place_for(p, class, s, n, table),
         Class::SmallRaw => small_place_for(p, class, s, n, table),
         Class::Large => large_place_for(p, s, n, table),
+    }
+}
+
+// Whether a place is new pages at the end.
+pub fn is_end(place: Place) -> bool
+    ensures { λ r. ⌜ r ≡ atEndb place ⌝ }
+{
+    match place {
+        Place::Section(_, _) => false,
+        Place::Page(_, _) => false,
+        Place::End => true,
+    }
+}
+
+// The address of a place, in a file that ends at `end`.
+pub fn address_of(place: Place, end: u64) -> u64
+    ensures { λ r. ⌜ r ≡ placeAddress end place ⌝ }
+{
+    match place {
+        Place::Section(_, b) => b,
+        Place::Page(_, b) => b,
+        Place::End => end,
+    }
+}
+
+// The entry before which a piece at the place stands, of n entries.
+pub fn entry_of(place: Place, n: usize) -> usize
+    ensures { λ r. ⌜ r ≡ placeEntry n place ⌝ }
+{
+    match place {
+        Place::Section(i, _) => i,
+        Place::Page(i, _) => i,
+        Place::End => n,
     }
 }

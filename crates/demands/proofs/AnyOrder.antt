@@ -7,20 +7,23 @@
 --
 -- Assumes nothing.
 use Prim.Native.Nat.{ℕ}
-use mathlib.Core.List.{List, [], _∷_, List·Memᴰ, List·Memᴰ·head, List·Memᴰ·tail, List·Permᴰ, List·Permᴰ·nil, List·Permᴰ·cons, List·Permᴰ·swap, List·Permᴰ·trans, Permᴰ·refl}
+use mathlib.Core.List.{List, [], _∷_, List·Memᴰ, List·Memᴰ·head, List·Memᴰ·tail}
+use mathlib.Core.List.{List·Permᴰ, List·Permᴰ·nil, List·Permᴰ·cons, List·Permᴰ·swap, List·Permᴰ·trans, Permᴰ·refl}
 use mathlib.Core.Path.{_≡_, refl, sym, ap, _∙_}
 use lib.ListN.{length, replicate}
-use Rattle.demands.proofs.AcceptedLaws.{released-changed}
-use Rattle.demands.proofs.KeepLaws.{tabled, tabled-length, tabled-lives, tabled-sound, sound-words, sound-state}
+use Rattle.accepted.proofs.AcceptedLaws.{released-changed}
+use Rattle.accepted.proofs.AmongLaws.{Among, among-remove}
+use Rattle.accepted.proofs.ReleasedLaws.{released-done}
+use Rattle.accepted.proofs.KeptLaws.{tabled, tabled-length, tabled-lives, tabled-sound, sound-words, sound-state}
 use Rattle.demands.proofs.Lists.{perm-among, perm-length}
-use Rattle.demands.proofs.ReleaseLaws.{Among, live-among, among-remove, released-done}
-use Rattle.demands.specs.Calls.{called, Ran, ran, releasesOf, removeAll, SoundSpace, Distinct, distinct-none, distinct-more}
+use Rattle.demands.proofs.LiveLaws.{live-among}
+use Rattle.demands.specs.Calls.{called, Ran, ran, releasesOf, removeAll, Distinct, distinct-none, distinct-more}
 use Rattle.demands.specs.Demands.{acceptedAll, AnyOrder, TwoOrders}
 use Rattle.pieces.specs.Words.{table}
 use Rattle.pieces.specs.declared.Piece.{Piece}
 use Rattle.rules.proofs.RemoveLaws.{remove-swap}
 use Rattle.rules.specs.Editing.{Name, remove}
-use Rattle.space.specs.Answers.{entriesOf, stateOf, Outcome}
+use Rattle.space.specs.Answers.{SoundSpace, entriesOf, stateOf, Outcome}
 use Rattle.space.specs.Giving.{released}
 use Rattle.space.specs.declared.Space.{Space}
 use Rattle.table.specs.Fill.{lives, fill}

@@ -1,8 +1,8 @@
 -- The tests that refuse, and the conditions in document 01's words: each test holds exactly where its condition does.
 --
--- In the order of the numbers, but for 8 and 9 with the 5 of an extend: opening-ranges (1), sound-test (2), type-test and manager-test (3),
--- zero-test (4), beyond-end, end-beyond and too-many (5 and 6 of an allocation), has-room and the-room (8), has-left and the-left (9), grows-last
--- and last-grows (5 of an extend). A name that begins with `test` is the other direction.
+-- In the order of the numbers, but for 8 and 9 with the 5 of an extend: type-test and manager-test (3), zero-test (4), beyond-end, end-beyond and
+-- too-many (5 and 6 of an allocation), has-room and the-room (8), has-left and the-left (9), grows-last and last-grows (5 of an extend). A name
+-- that begins with `test` is the other direction.
 --
 -- Assumes nothing.
 use Prim.Native.Nat.{ℕ, _+_, _-_, _≤_, _<_}
@@ -12,58 +12,39 @@ use mathlib.Core.Path.{_≡_, refl, sym, ap, _∙_}
 use native.Mathlib.Omega.{arith}
 use lib.Dec.{leb, ltb, eqb}
 use borrow.Author.Tests.{le-leb, lt-ltb, eq-eqb, ne-eqb, leb-true, ltb-true, eqb-true}
-use Rattle.choose.proofs.BestLaws.{entry-among}
-use Rattle.choose.specs.Place.{placeFor, placeAddress}
+use Rattle.choose.specs.Place.{placeFor, placeAddress, atEndb}
 use Rattle.choose.specs.declared.place.Place.{Place}
-use Rattle.demands.proofs.AcceptedLaws.{pos, here}
-use Rattle.demands.proofs.LongerLaws.{Stands, stands-here, stands-later, found-stands}
-use Rattle.demands.proofs.PlaceRule.{PlaceFound, inside, outside, place-found, mem-below}
+use Rattle.accepted.proofs.AcceptedLaws.{pos, here}
+use Rattle.accepted.proofs.LongerLaws.{Stands, stands-here, stands-later, found-stands}
+use Rattle.accepted.proofs.PlaceRule.{PlaceFound, inside, outside, place-found, mem-below}
 use Rattle.demands.proofs.Placing.{section-then-none, one-place}
-use Rattle.demands.specs.Calls.{SoundSpace, IsLive, livesOf}
-use Rattle.demands.specs.Places.{PlaceIs, in-section, at-the-end}
-use Rattle.demands.specs.Rows.{UnknownType, UnknownManager, ZeroAsked, no-size, no-change, RoomBehind, small-room, large-room, room-at-end, HasRoom, Remains, HasLeft, NoPlace, LastLarge, TooMany, FullThere}
+use Rattle.demands.specs.Calls.{IsLive}
+use Rattle.accepted.specs.Places.{PlaceIs, in-section, at-the-end}
+use Rattle.demands.specs.Rows.{UnknownType, UnknownManager, ZeroAsked, no-size, no-change, NoPlace, LastLarge, TooMany, FullThere}
+use Rattle.demands.specs.Rows.{RoomBehind, small-room, large-room, room-at-end, HasRoom, Remains, HasLeft}
 use Rattle.find.specs.Find.{FoundAt}
 use Rattle.pages.proofs.Numbers.{and-left, and-right, not-both}
-use Rattle.pages.proofs.PageLaws.{true-border, false-border, border-zero}
+use Rattle.pages.proofs.PageLaws.{true-border, false-border}
 use Rattle.pages.specs.Pages.{Border, borderb, up}
-use Rattle.pieces.proofs.PieceLaws.{small-large, large-small}
+use Rattle.pieces.proofs.PieceLaws.{entry-among, small-large, large-small}
 use Rattle.pieces.specs.Pieces.{piece, classOf, Small, metadata, raw, IsFree, is-free, freeb, largeFreeb}
 use Rattle.pieces.specs.declared.Class.the-variants.{SmallMetadata, SmallRaw, Large}
 use Rattle.pieces.specs.declared.Class.{Class}
 use Rattle.pieces.specs.declared.Piece.{Piece}
 use Rattle.pieces.specs.declared.Status.the-variants.{Live, Free}
 use Rattle.pieces.specs.declared.Status.{Status}
+use Rattle.requests.specs.Requests.{metadataCode, rawCode, largeCode, typeb, managerb}
+use Rattle.room.specs.Room.{smallRoomb, largeRoomb, roomBehindb, growsBeyondb, remainsb}
 use Rattle.rules.specs.Editing.{insert}
-use Rattle.space.specs.Answers.{soundb, entriesOf}
-use Rattle.space.specs.Giving.{nameOf, entriesBehind, smallRoomb, largeRoomb, roomBehindb, growsBeyondb, remainsb}
-use Rattle.space.specs.Listing.{managerb, largeCode}
-use Rattle.space.specs.Opening.{openingb}
-use Rattle.space.specs.Placing.{metadataCode, rawCode, typeb, atEndb, beyondb}
+use Rattle.space.specs.Answers.{SoundSpace, entriesOf, livesOf}
+use Rattle.space.specs.Giving.{nameOf, entriesBehind}
+use Rattle.space.specs.Placing.{beyondb}
 use Rattle.space.specs.declared.Space.{Space}
 use Rattle.table.proofs.Chain.{ChainFrom, stop, step}
 use Rattle.table.proofs.ChainLaws.{chain-le}
 use Rattle.table.proofs.Literal.{mem-from}
-use Rattle.table.proofs.Theorems.{local-form, sound-chain}
-use Rattle.table.specs.Local.{tableLengthb, rangesb, noneb}
-use Rattle.table.specs.Sound.{capacity}
-
--- ---- 1
-
--- with E and n 0 the ranges are those of P, M and the length
-pub opening-ranges : (P M len : ℕ) → rangesb P M 0 0 len ≡ openingb P M len
-unfolding openingb rangesb
-opening-ranges P M len =
-    let e : (tableLengthb len && leb 0 (capacity len)) ≡ tableLengthb len = go (tableLengthb len) (le-leb 0 (capacity len) (omega arith)) in
-    rw (true-border (border-zero P), le-leb 0 M (omega arith), e)
-  where
-    go : (t : Bool) {c : Bool} → c ≡ true → (t && c) ≡ t
-    go true e = e
-    go false e = refl
-
--- ---- 2
-
-pub sound-test : (sp : Space) (w : List ℕ) → soundb sp w ≡ true → SoundSpace sp w
-sound-test sp w = local-form (sp .page) (sp .limit) (sp .end) (sp .count) w .1
+use Rattle.table.proofs.Theorems.{sound-chain}
+use Rattle.table.specs.Local.{noneb}
 
 -- ---- 3
 
@@ -268,7 +249,8 @@ module _ (sp : Space) (w : List ℕ) (s : SoundSpace sp w) (a z i : ℕ) (x : Pi
   -- any live piece of this name is the one that was found
   the-class : (l : IsLive (entriesOf sp w) (nameOf a z)) → l .named .class ≡ class
   the-class l =
-      let same : l .entry ≡ x = one-at (pos sp w s) (sound-chain s) (l .among) (entry-among (f .entry)) (l .named .address ∙ sym (f .named .address)) in
+      let there = l .named .address ∙ sym (f .named .address) in
+      let same : l .entry ≡ x = one-at (pos sp w s) (sound-chain s) (l .among) (entry-among (f .entry)) there in
       ap classOf (sym (l .named .live) ∙ (ap (λ (v : Piece). v .status) same ∙ f .named .live))
 
   -- the test of the code looks at the class of the entry
@@ -306,7 +288,7 @@ module _ (sp : Space) (w : List ℕ) (s : SoundSpace sp w) (a z i : ℕ) (x : Pi
   large-at-end m Large [] h n = refl
   large-at-end m c (y ∷ tl) h n = absurd (not-both n refl)
 
-  pub grows-last : (m : ℕ) → room m (classOf (x .status)) ≡ true → growsBeyondb sp (a + z) m behind-it ≡ true → Beyond m
+  pub grows-last : (m : ℕ) → room m (classOf (x .status)) ≡ true → growsBeyondb (sp .page) (sp .limit) (a + z) m behind-it ≡ true → Beyond m
   unfolding growsBeyondb
   grows-last m r g =
       let b = ltb (sp .limit) (up (sp .page) (a + z + m)) in
@@ -322,6 +304,6 @@ module _ (sp : Space) (w : List ℕ) (s : SoundSpace sp w) (a z i : ℕ) (x : Pi
         ltb-true (sp .limit) (up (sp .page) (a + z + m)) (and-right (noneb behind-it) b g),
       )
 
-  pub last-grows : (m : ℕ) → Beyond m → growsBeyondb sp (a + z) m behind-it ≡ true
+  pub last-grows : (m : ℕ) → Beyond m → growsBeyondb (sp .page) (sp .limit) (a + z) m behind-it ≡ true
   unfolding growsBeyondb
   last-grows m (l, h) = rw (none-behind chain-behind (l .last), lt-ltb (sp .limit) (up (sp .page) (a + z + m)) h)

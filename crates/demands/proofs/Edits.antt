@@ -8,27 +8,26 @@ use mathlib.Core.Bool.{Bool, true, false}
 use mathlib.Core.List.{List, List·Memᴰ}
 use mathlib.Core.Path.{_≡_, refl, sym, ap, _∙_}
 use native.Mathlib.Omega.{arith}
-use Rattle.choose.proofs.BestLaws.{entry-among}
-use Rattle.demands.proofs.AcceptedLaws.{passed}
-use Rattle.demands.proofs.EditLaws.{insert-stays, resize-stays, Apart, before, after, insert-apart, NamedOr, is-named, is-apart, resize-apart}
-use Rattle.demands.proofs.KeepLaws.{tabled-lives}
+use Rattle.accepted.proofs.AcceptedLaws.{naming-accepted}
+use Rattle.accepted.proofs.EditedLaws.{insert-stays, resize-stays, Apart, before, after, insert-apart, NamedOr, is-named, is-apart, resize-apart}
+use Rattle.accepted.proofs.AmongLaws.{mem-remove}
+use Rattle.accepted.proofs.KeptLaws.{tabled-lives}
 use Rattle.demands.proofs.Keeps.{changed}
-use Rattle.demands.proofs.ReleaseLaws.{live-among, mem-remove}
-use Rattle.demands.specs.Calls.{Call, allocates, extends, called, OnSpace, allocating, releasing, extending, shortening, livesOf, livesAfter, edited, Unnamed, IsLive}
+use Rattle.demands.proofs.LiveLaws.{live-among}
+use Rattle.demands.specs.Calls.{Call, allocates, extends, called, OnSpace, allocating, releasing, extending, shortening}
+use Rattle.demands.specs.Calls.{livesAfter, edited, Unnamed, IsLive}
 use Rattle.demands.specs.Demands.{Accepted, Edits, NotLive, NewBytes}
-use Rattle.find.proofs.FindLaws.{found-at}
-use Rattle.find.specs.Find.{findLive}
-use Rattle.find.specs.declared.Found.the-variants.{At, Missing}
-use Rattle.find.specs.declared.Found.{Found}
 use Rattle.pages.proofs.PageLaws.{page-pos}
+use Rattle.pieces.proofs.PieceLaws.{entry-among}
 use Rattle.pieces.specs.Pieces.{piece}
 use Rattle.pieces.specs.declared.Piece.{Piece}
 use Rattle.pieces.specs.declared.Status.the-variants.{Live}
+use Rattle.requests.specs.Requests.{classFor}
 use Rattle.rules.proofs.RemoveLaws.{named-address, named-size}
 use Rattle.rules.specs.Editing.{names}
-use Rattle.space.specs.Answers.{notSound, zeroAsked, entriesOf, Outcome}
+use Rattle.space.specs.Answers.{entriesOf, livesOf, Outcome}
 use Rattle.space.specs.Giving.{nameOf, extendedAt, extended}
-use Rattle.space.specs.Placing.{classFor, allocated}
+use Rattle.space.specs.Placing.{allocated}
 use Rattle.space.specs.declared.Space.{Space}
 use Rattle.table.specs.Theorems.{Holds}
 
@@ -68,24 +67,16 @@ apart-no-byte (after l) h g k = omega (arith, k .from, k .to)
 allocated-new : (sp : Space) (t s : ℕ) (w : List ℕ) → Accepted (allocates t s) sp w
     → NotLive sp w (allocated sp t s w .address) (allocated sp t s w .address + s)
 allocated-new sp t s w h v l u x i k =
+    let new : Piece = piece (allocated sp t s w .address) s (Live (classFor (sp .page) t s)) in
     let g = changed sp w (h .on-space) (h .sound) (h .done) .good in
-    apart-no-byte (insert-apart (sp .page) (page-pos (h .sound .ranges .page)) (piece (allocated sp t s w .address) s (Live (classFor (sp .page) t s))) (livesOf sp w) g i)
-    l u k
+    apart-no-byte (insert-apart (sp .page) (page-pos (h .sound .ranges .page)) new (livesOf sp w) g i) l u k
 
 -- an extend that is accepted names a live piece
 extended-live : (sp : Space) (a z m : ℕ) (w : List ℕ) → extended sp a z m w .refusal ≡ 0 → IsLive (entriesOf sp w) (nameOf a z)
-unfolding extended extendedAt
+unfolding extended
 extended-live sp a z m w e =
-    let p = passed sp w _ notSound _ (λ q. omega arith) e in
-    let e1 = rw (p .1) at e in
-    let p1 = passed sp w _ zeroAsked _ (λ q. omega arith) e1 in
-    go (findLive a z 0 (entriesOf sp w)) refl (rw (p1 .1) at e1)
-  where
-    go : (f : Found) → findLive a z 0 (entriesOf sp w) ≡ f → extendedAt sp a z m w f .refusal ≡ 0 → IsLive (entriesOf sp w) (nameOf a z)
-    go Missing q i = absurd (omega (arith, i))
-    go (At k x) q i =
-        let f = found-at a z (entriesOf sp w) k x (sym q) in
-        record { entry = x; among = entry-among (f .entry); named = f .named }
+    let f = naming-accepted sp w _ a z (extendedAt sp a z m w) e in
+    record { entry = f .entry; among = entry-among (f .at .entry); named = f .at .named }
 
 extended-new : (sp : Space) (a z m : ℕ) (w : List ℕ) → Accepted (extends a z m) sp w → NotLive sp w (a + z) (a + z + m)
 unfolding called

@@ -2,7 +2,7 @@
 --
 --   first, first-not        one row more: a test that refuses where its condition holds, or where it does not
 --   settled-row             the last row of a change: 6, or accepted
---   sound-row, zero-row, found-row     the rows that calls share
+--   sound-row, found-row, naming-row, asking-row     the rows that calls share
 --   one-number              a row allows one number
 --   exactly                 the statement
 --
@@ -14,33 +14,41 @@ use mathlib.Core.Path.{_≡_, refl, sym, ap, _∙_}
 use lib.Dec.{eqb}
 use lib.ListN.{length}
 use borrow.Author.Tests.{lt-ltb, eq-eqb, ltb-true, eqb-true}
-use Rattle.choose.proofs.BestLaws.{entry-among}
-use Rattle.demands.proofs.ConditionLaws.{opening-ranges, sound-test, type-test, test-type, manager-test, test-manager, zero-test, test-zero, chosen, beyond-end, end-beyond, there, there-is, placing-it, too-many, room, has-room, the-room, has-left, the-left, Beyond, grows-last, last-grows}
-use Rattle.demands.proofs.KeepLaws.{sound-true}
-use Rattle.demands.proofs.PlaceRule.{place-found}
-use Rattle.demands.proofs.ReleaseLaws.{entry-is}
-use Rattle.demands.specs.Calls.{Call, opens, allocates, releases, extends, shortens, called, SoundSpace, IsLive, livesOf}
+use Rattle.accepted.proofs.AmongLaws.{entry-number}
+use Rattle.accepted.proofs.PlaceRule.{place-found}
+use Rattle.demands.proofs.ConditionLaws.{type-test, test-type, manager-test, test-manager, zero-test, test-zero}
+use Rattle.demands.proofs.ConditionLaws.{chosen, beyond-end, end-beyond, there, there-is, placing-it, too-many}
+use Rattle.demands.proofs.ConditionLaws.{room, has-room, the-room, has-left, the-left, Beyond, grows-last, last-grows}
+use Rattle.demands.specs.Calls.{Call, opens, allocates, releases, extends, shortens, called, IsLive}
 use Rattle.demands.specs.Demands.{Exactly}
-use Rattle.demands.specs.Rows.{Given, given, passed-on, UnknownType, UnknownManager, ZeroAsked, HasRoom, HasLeft, NoPlace, LastLarge, TooMany, FullThere, Row, ListRow}
+use Rattle.demands.specs.Rows.{Given, given, passed-on, UnknownType, UnknownManager, ZeroAsked}
+use Rattle.demands.specs.Rows.{HasRoom, HasLeft, NoPlace, LastLarge, TooMany, FullThere, Row, ListRow}
 use Rattle.find.proofs.FindLaws.{found-missing, found-at}
 use Rattle.find.specs.Find.{FoundAt, findLive}
 use Rattle.find.specs.declared.Found.the-variants.{At, Missing}
 use Rattle.find.specs.declared.Found.{Found}
 use Rattle.pages.proofs.Numbers.{not-both}
 use Rattle.pages.specs.Pages.{up}
+use Rattle.pieces.proofs.PieceLaws.{entry-among}
 use Rattle.pieces.specs.Pieces.{classOf}
 use Rattle.pieces.specs.declared.Class.{Class}
 use Rattle.pieces.specs.declared.Piece.{Piece}
+use Rattle.requests.specs.Requests.{classFor, classOfManager}
+use Rattle.room.specs.Room.{remainsb}
 use Rattle.rules.specs.Editing.{remove, resize}
+use Rattle.sections.specs.Sections.{sections, pairWords}
+use Rattle.space.proofs.AnswerLaws.{is-sound-true, sound-true}
 use Rattle.space.proofs.OpenLaws.{opened-refused, opened-done}
-use Rattle.space.specs.Answers.{notSound, unknownCode, zeroAsked, beyondLimit, tableFull, notLive, noRoomBehind, tooLittleLeft, sliceTooShort, soundb, entriesOf, Outcome, refusing, settled}
-use Rattle.space.specs.Giving.{nameOf, remainsb, releasedAt, released, extendedAt, extended, shortenedAt, shortened}
-use Rattle.space.specs.Listing.{ListOutcome, classOfManager, sections, pairWords, refusingList, listedAs, listed}
-use Rattle.space.specs.Opening.{openingb, opened}
-use Rattle.space.specs.Placing.{classFor, Placed, refusingPlace, placedAt, placed, allocated}
+use Rattle.space.specs.Answers.{notSound, unknownCode, zeroAsked, beyondLimit, tableFull, notLive, noRoomBehind, tooLittleLeft, sliceTooShort}
+use Rattle.space.specs.Answers.{SoundSpace, soundb, entriesOf, livesOf, Outcome, refusing, plain, settled}
+use Rattle.space.specs.Giving.{nameOf, namedAs, whenNamed, naming, releasedAt, released, extendedAt, extended, shortenedAt, shortened}
+use Rattle.space.specs.Listing.{ListOutcome, listedAs, listed}
+use Rattle.space.specs.Opening.{opened}
+use Rattle.space.specs.Placing.{Placed, placedAt, placed, allocated}
 use Rattle.space.specs.declared.Space.{Space}
 use Rattle.table.proofs.LocalLaws.{ranges-true, true-ranges}
 use Rattle.table.specs.Fill.{fill}
+use Rattle.table.specs.Local.{rangesb}
 use Rattle.table.specs.Sound.{capacity}
 
 -- ---- one row more
@@ -68,25 +76,47 @@ module _ (sp : Space) (w : List ℕ) where
       first refusalOf tableFull _ _ refl (λ r. r ≡ 0) _ (ltb-true (capacity (length w)) (length (fill (sp .page) ps)))
       (lt-ltb (capacity (length w)) (length (fill (sp .page) ps))) (λ e. refl)
 
-  sound-row : (o : Outcome) (Rest : ℕ → Type 0) → (SoundSpace sp w → Rest (o .refusal))
-      → Given (refusing sp w (not (soundb sp w)) notSound o .refusal) notSound (SoundSpace sp w → ⊥) (Rest (refusing sp w (not (soundb sp w)) notSound o .refusal))
-  unfolding refusing
-  sound-row o Rest h = first-not refusalOf notSound _ o refl Rest (soundb sp w) (sound-test sp w) (sound-true sp w) h
-
-  zero-row : (z m : ℕ) (o : Outcome) (Rest : ℕ → Type 0) → Rest (o .refusal)
-      → Given (refusing sp w (eqb z 0 || eqb m 0) zeroAsked o .refusal) zeroAsked (ZeroAsked z m) (Rest (refusing sp w (eqb z 0 || eqb m 0) zeroAsked o .refusal))
-  unfolding refusing
-  zero-row z m o Rest h = first refusalOf zeroAsked _ o refl Rest _ (zero-test z m) (test-zero z m) (λ e. h)
-
-  found-row : (a z : ℕ) (at : Found → Outcome) (Rest : ℕ → Type 0) → at Missing .refusal ≡ notLive
-      → ((i : ℕ) (x : Piece) → FoundAt a z (entriesOf sp w) i x → Rest (at (At i x) .refusal)) → (f : Found) → findLive a z 0 (entriesOf sp w) ≡ f
-      → Given (at f .refusal) notLive (IsLive (entriesOf sp w) (nameOf a z) → ⊥) (Rest (at f .refusal))
-  found-row a z at Rest e h Missing q =
+  -- 7, and else what was found decides
+  found-row : (a z : ℕ) (found : ℕ → Piece → Outcome) (Rest : ℕ → Type 0)
+      → ((i : ℕ) (x : Piece) → FoundAt a z (entriesOf sp w) i x → Rest (found i x .refusal)) → (f : Found) → findLive a z 0 (entriesOf sp w) ≡ f
+      → Given (whenNamed sp w found (namedAs f) .refusal) notLive (IsLive (entriesOf sp w) (nameOf a z) → ⊥)
+      (Rest (whenNamed sp w found (namedAs f) .refusal))
+  unfolding whenNamed
+  found-row a z found Rest h Missing q =
       given
-      (λ l. let i = entry-is (l .among) in found-missing a z (entriesOf sp w) (sym q) (i .0) (l .entry) (i .1) (l .named)) e
-  found-row a z at Rest e h (At i x) q =
+      (λ l. let i = entry-number (l .among) in found-missing a z (entriesOf sp w) (sym q) (i .0) (l .entry) (i .1) (l .named)) refl
+  found-row a z found Rest h (At i x) q =
       let f = found-at a z (entriesOf sp w) i x (sym q) in
       passed-on (λ n. n (record { entry = x; among = entry-among (f .entry); named = f .named })) (h i x f)
+
+  abbrev NotNamed : ℕ → ℕ → Type 0
+  NotNamed a z = IsLive (entriesOf sp w) (nameOf a z) → ⊥
+
+  -- 2, and then what a sound table gives
+  sound-row : (o : Outcome) (Rest : ℕ → Type 0) → (SoundSpace sp w → Rest (o .refusal))
+      → Given (refusing plain sp w (not (soundb sp w)) notSound o .refusal) notSound (SoundSpace sp w → ⊥)
+      (Rest (refusing plain sp w (not (soundb sp w)) notSound o .refusal))
+  unfolding refusing
+  sound-row o Rest h = first-not refusalOf notSound _ o refl Rest (soundb sp w) (is-sound-true sp w) (sound-true sp w) h
+
+  -- the front of a release, which has no 4, and of the two calls that have it
+  module _ (a z : ℕ) (found : ℕ → Piece → Outcome) (Rest : ℕ → Type 0)
+      (h : SoundSpace sp w → (i : ℕ) (x : Piece) → FoundAt a z (entriesOf sp w) i x → Rest (found i x .refusal)) where
+    abbrev Named : ℕ → Type 0
+    Named r = Given r notLive (NotNamed a z) (Rest r)
+
+    naming-row : Given (naming sp w false a z found .refusal) notSound (SoundSpace sp w → ⊥) (Named (naming sp w false a z found .refusal))
+    unfolding naming refusing
+    naming-row = sound-row _ Named (λ s. found-row a z found Rest (h s) (findLive a z 0 (entriesOf sp w)) refl)
+
+    asking-row : (m : ℕ)
+        → Given (naming sp w (eqb z 0 || eqb m 0) a z found .refusal) notSound (SoundSpace sp w → ⊥)
+        (Given (naming sp w (eqb z 0 || eqb m 0) a z found .refusal) zeroAsked (ZeroAsked z m) (Named (naming sp w (eqb z 0 || eqb m 0) a z found .refusal)))
+    unfolding naming refusing
+    asking-row m =
+        sound-row _ (λ r. Given r zeroAsked (ZeroAsked z m) (Named r))
+        (λ s. first refusalOf zeroAsked _ _ refl Named _ (zero-test z m) (test-zero z m)
+        (λ e. found-row a z found Rest (h s) (findLive a z 0 (entriesOf sp w)) refl))
 
 -- ---- an extend and a shorten, behind the name
 
@@ -97,47 +127,39 @@ module _ (sp : Space) (w : List ℕ) (s : SoundSpace sp w) (a z i : ℕ) (x : Pi
   abbrev longer : ℕ → List Piece
   longer m = resize (nameOf a z) (z + m) (livesOf sp w)
 
-  extend-row : (m r : ℕ) → r ≡ extendedAt sp a z m w (At i x) .refusal
-      → Given r noRoomBehind (HasRoom sp w a z m → ⊥) (Given r beyondLimit (Beyond sp w s a z i x f m) (SettledRow (longer m) r))
+  abbrev GrownRow : ℕ → ℕ → Type 0
+  GrownRow m r = Given r beyondLimit (Beyond sp w s a z i x f m) (SettledRow (longer m) r)
+
+  extend-row : (m : ℕ) → Given (extendedAt sp a z m w i x .refusal) noRoomBehind (HasRoom sp w a z m → ⊥) (GrownRow m (extendedAt sp a z m w i x .refusal))
   unfolding extendedAt refusing
-  extend-row m r q =
-      rw q
-      (first-not refusalOf noRoomBehind _ _ refl (λ r. Given r beyondLimit (Beyond sp w s a z i x f m) (SettledRow (longer m) r)) (room sp w s a z i x f m (classOf (x .status)))
-      (has-room sp w s a z i x f m) (the-room sp w s a z i x f m)
-      (λ h. first refusalOf beyondLimit _ _ refl (SettledRow (longer m)) _ (grows-last sp w s a z i x f m (the-room sp w s a z i x f m h)) (last-grows sp w s a z i x f m)
-      (λ e. settled-row sp w (longer m))))
+  extend-row m =
+      let there = the-room sp w s a z i x f m in
+      first-not refusalOf noRoomBehind _ _ refl (GrownRow m) (room sp w s a z i x f m (classOf (x .status))) (has-room sp w s a z i x f m) there
+      (λ h. first refusalOf beyondLimit _ _ refl (SettledRow (longer m)) _ (grows-last sp w s a z i x f m (there h)) (last-grows sp w s a z i x f m)
+      (λ e. settled-row sp w (longer m)))
 
   abbrev shorter : ℕ → List Piece
   shorter k = resize (nameOf a z) (z - k) (livesOf sp w)
 
-  shorten-row : (k r : ℕ) → r ≡ shortenedAt sp a z k w (At i x) .refusal
-      → Given r tooLittleLeft (HasLeft sp w a z k → ⊥) (SettledRow (shorter k) r)
+  shorten-row : (k : ℕ) → Given (shortenedAt sp a z k w i x .refusal) tooLittleLeft (HasLeft sp w a z k → ⊥)
+      (SettledRow (shorter k) (shortenedAt sp a z k w i x .refusal))
   unfolding shortenedAt refusing
-  shorten-row k r q =
-      rw q
-      (first-not refusalOf tooLittleLeft _ _ refl (SettledRow (shorter k)) (remainsb (sp .page) (classOf (x .status)) z k) (has-left sp w s a z i x f k) (the-left sp w s a z i x f k)
-      (λ h. settled-row sp w (shorter k)))
+  shorten-row k =
+      first-not refusalOf tooLittleLeft _ _ refl (SettledRow (shorter k)) (remainsb (sp .page) (classOf (x .status)) z k)
+      (has-left sp w s a z i x f k) (the-left sp w s a z i x f k) (λ h. settled-row sp w (shorter k))
 
 -- ---- each call
 
 module _ (sp : Space) (w : List ℕ) where
-  abbrev NotNamed : ℕ → ℕ → Type 0
-  NotNamed a z = IsLive (entriesOf sp w) (nameOf a z) → ⊥
-
   released-row : (a z : ℕ) → Row (releases a z) sp w (released sp a z w .refusal)
   unfolding released releasedAt
   released-row a z =
       let ps = remove (nameOf a z) (livesOf sp w) in
-      sound-row sp w _ (λ r. Given r notLive (NotNamed a z) (Given r tableFull (TooMany sp w ps) (r ≡ 0)))
-      (λ s. found-row sp w a z (releasedAt sp a z w) (λ r. Given r tableFull (TooMany sp w ps) (r ≡ 0)) refl (λ i x f. settled-row sp w ps)
-      (findLive a z 0 (entriesOf sp w)) refl)
+      naming-row sp w a z (releasedAt sp a z w) (λ r. Given r tableFull (TooMany sp w ps) (r ≡ 0)) (λ s i x f. settled-row sp w ps)
 
   extended-row : (a z m : ℕ) → Row (extends a z m) sp w (extended sp a z m w .refusal)
-  unfolding extended extendedAt
-  extended-row a z m =
-      sound-row sp w _ (λ r. Given r zeroAsked (ZeroAsked z m) (Named r))
-      (λ s. zero-row sp w z m _ Named
-      (found-row sp w a z (extendedAt sp a z m w) Behind refl (λ i x f. extend-row sp w s a z i x f m _ refl) (findLive a z 0 (entriesOf sp w)) refl))
+  unfolding extended
+  extended-row a z m = asking-row sp w a z (extendedAt sp a z m w) Behind (λ s i x f. extend-row sp w s a z i x f m) m
     where
       Behind : ℕ → Type 0
       Behind r =
@@ -145,23 +167,14 @@ module _ (sp : Space) (w : List ℕ) where
           (Given r beyondLimit (LastLarge sp w a z × (sp .limit < up (sp .page) (a + z + m)))
           (Given r tableFull (TooMany sp w (resize (nameOf a z) (z + m) (livesOf sp w))) (r ≡ 0)))
 
-      Named : ℕ → Type 0
-      Named r = Given r notLive (NotNamed a z) (Behind r)
-
   shortened-row : (a z k : ℕ) → Row (shortens a z k) sp w (shortened sp a z k w .refusal)
-  unfolding shortened shortenedAt
-  shortened-row a z k =
-      sound-row sp w _ (λ r. Given r zeroAsked (ZeroAsked z k) (Named r))
-      (λ s. zero-row sp w z k _ Named
-      (found-row sp w a z (shortenedAt sp a z k w) Left refl (λ i x f. shorten-row sp w s a z i x f k _ refl) (findLive a z 0 (entriesOf sp w)) refl))
+  unfolding shortened
+  shortened-row a z k = asking-row sp w a z (shortenedAt sp a z k w) Left (λ s i x f. shorten-row sp w s a z i x f k) k
     where
       Left : ℕ → Type 0
       Left r =
           Given r tooLittleLeft (HasLeft sp w a z k → ⊥)
           (Given r tableFull (TooMany sp w (resize (nameOf a z) (z - k) (livesOf sp w))) (r ≡ 0))
-
-      Named : ℕ → Type 0
-      Named r = Given r notLive (NotNamed a z) (Left r)
 
 -- ---- an allocation
 
@@ -169,24 +182,31 @@ abbrev placeRefusal : Placed → ℕ
 placeRefusal p = p .outcome .refusal
 
 module _ (sp : Space) (w : List ℕ) (s : SoundSpace sp w) (c : Class) (n : ℕ) where
-  full-row : Given (settled sp w (placing-it sp w s c n (there sp w s c n)) .refusal) tableFull (FullThere sp w c n) (settled sp w (placing-it sp w s c n (there sp w s c n)) .refusal ≡ 0)
+  -- what the call leaves with the new piece at the rule's place, and how it is refused
+  abbrev settled-there : Outcome
+  settled-there = settled sp w (placing-it sp w s c n (there sp w s c n))
+
+  full-row : Given (settled-there .refusal) tableFull (FullThere sp w c n) (settled-there .refusal ≡ 0)
   full-row = go (settled-row sp w (placing-it sp w s c n (there sp w s c n)))
     where
       go : {r : ℕ} → Given r tableFull (TooMany sp w (placing-it sp w s c n (there sp w s c n))) (r ≡ 0) → Given r tableFull (FullThere sp w c n) (r ≡ 0)
       go (given h e) = given (record { place = there sp w s c n; is = there-is sp w s c n; full = h }) e
       go (passed-on h e) = passed-on (λ l. h (too-many sp w s c n l)) e
 
-  placed-row : Given (placed sp c n w (chosen sp w s c n) .outcome .refusal) beyondLimit (NoPlace sp w c n)
-      (Given (placed sp c n w (chosen sp w s c n) .outcome .refusal) tableFull (FullThere sp w c n) (placed sp c n w (chosen sp w s c n) .outcome .refusal ≡ 0))
-  unfolding placed refusingPlace placedAt
+  abbrev refusal-there : ℕ
+  refusal-there = placed sp c n w (chosen sp w s c n) .outcome .refusal
+
+  placed-row : Given refusal-there beyondLimit (NoPlace sp w c n) (Given refusal-there tableFull (FullThere sp w c n) (refusal-there ≡ 0))
+  unfolding placed refusing placedAt
   placed-row =
-      first placeRefusal beyondLimit _ _ refl (λ r. Given r tableFull (FullThere sp w c n) (r ≡ 0)) _ (beyond-end sp w s c n _ (place-found sp w s c n))
-      (end-beyond sp w s c n _ (place-found sp w s c n)) (λ e. full-row)
+      let found = place-found sp w s c n in
+      first placeRefusal beyondLimit _ _ refl (λ r. Given r tableFull (FullThere sp w c n) (r ≡ 0)) _ (beyond-end sp w s c n _ found)
+      (end-beyond sp w s c n _ found) (λ e. full-row)
 
 allocated-row : (sp : Space) (w : List ℕ) (t n : ℕ) → Row (allocates t n) sp w (allocated sp t n w .outcome .refusal)
-unfolding allocated refusingPlace
+unfolding allocated refusing
 allocated-row sp w t n =
-    first-not placeRefusal notSound _ _ refl Typed (soundb sp w) (sound-test sp w) (sound-true sp w)
+    first-not placeRefusal notSound _ _ refl Typed (soundb sp w) (is-sound-true sp w) (sound-true sp w)
     (λ s. first placeRefusal unknownCode _ _ refl Sized _ (type-test t) (test-type t)
     (λ e. first placeRefusal zeroAsked _ _ refl Placing _ (eqb-true n 0) (eq-eqb n 0) (λ f. placed-row sp w s (classFor (sp .page) t n) n)))
   where
@@ -203,20 +223,18 @@ allocated-row sp w t n =
 -- ---- an opening
 
 opened-row : (P M : ℕ) (sp : Space) (w : List ℕ) → Row (opens P M) sp w (opened P M w .refusal)
-opened-row P M sp w = go (openingb P M (length w)) refl
+opened-row P M sp w = go (rangesb P M 0 0 (length w)) refl
   where
-    go : (t : Bool) → openingb P M (length w) ≡ t → Row (opens P M) sp w (opened P M w .refusal)
-    go true e =
-        passed-on (λ n. n (ranges-true P M 0 0 (length w) (opening-ranges P M (length w) ∙ e))) (ap refusalOf (opened-done P M w e))
-    go false e =
-        given (λ r. not-both (true-ranges P M 0 0 (length w) r) (opening-ranges P M (length w) ∙ e)) (ap refusalOf (opened-refused P M w e))
+    go : (t : Bool) → rangesb P M 0 0 (length w) ≡ t → Row (opens P M) sp w (opened P M w .refusal)
+    go true e = passed-on (λ n. n (ranges-true P M 0 0 (length w) e)) (ap refusalOf (opened-done P M w e))
+    go false e = given (λ r. not-both (true-ranges P M 0 0 (length w) r) e) (ap refusalOf (opened-refused P M w e))
 
 -- ---- a listing
 
 listed-row : (sp : Space) (m : ℕ) (w v : List ℕ) → ListRow sp m w v (listed sp m w v .refusal)
-unfolding listed listedAs refusingList
+unfolding listed listedAs refusing
 listed-row sp m w v =
-    first-not number notSound _ _ refl Known (soundb sp w) (sound-test sp w) (sound-true sp w)
+    first-not number notSound _ _ refl Known (soundb sp w) (is-sound-true sp w) (sound-true sp w)
     (λ s. first number unknownCode _ _ refl Long _ (manager-test m) (test-manager m)
     (λ e. first number sliceTooShort _ _ refl (λ r. r ≡ 0) _ (ltb-true (length v) words) (lt-ltb (length v) words) (λ f. refl)))
   where

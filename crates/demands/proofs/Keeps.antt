@@ -10,18 +10,19 @@ use mathlib.Core.List.{List, [], _∷_, List·Memᴰ, List·Memᴰ·head, List·
 use mathlib.Core.Path.{_≡_, refl, sym, ap, _∙_, subst}
 use native.Mathlib.Omega.{arith}
 use lib.ListN.{length, length-replicate}
-use Rattle.demands.proofs.AcceptedLaws.{Changed, released-changed, extended-changed, shortened-changed, allocated-put}
-use Rattle.demands.proofs.KeepLaws.{tabled, tabled-length, tabled-sound}
+use Rattle.accepted.proofs.AcceptedLaws.{Changed, released-changed, extended-changed, shortened-changed, allocated-put}
+use Rattle.accepted.proofs.KeptLaws.{tabled, tabled-length, tabled-sound}
 use Rattle.demands.proofs.Refusals.{refusals}
-use Rattle.demands.specs.Calls.{Call, called, refusalsOf, handedBack, OnSpace, allocating, releasing, extending, shortening, ran, edited, SoundSpace}
+use Rattle.demands.specs.Calls.{Call, called, refusalsOf, handedBack, OnSpace, allocating, releasing, extending, shortening, ran, edited}
 use Rattle.demands.specs.Demands.{Answered, accepted, refused, Covers, KeptSound, Keeps, Runs}
 use Rattle.pieces.specs.declared.Piece.{Piece}
 use Rattle.space.proofs.OpenLaws.{opened-refused, opened-done, opened-sound}
-use Rattle.space.proofs.SettleLaws.{is-sound-true}
-use Rattle.space.specs.Answers.{Outcome, stateOf}
-use Rattle.space.specs.Opening.{openingb, opened}
+use Rattle.space.proofs.AnswerLaws.{is-sound-true}
+use Rattle.space.specs.Answers.{SoundSpace, Outcome, stateOf}
+use Rattle.space.specs.Opening.{opened}
 use Rattle.space.specs.declared.Space.{Space}
 use Rattle.table.proofs.Theorems.{tiling}
+use Rattle.table.specs.Local.{rangesb}
 
 -- ---- what an accepted call leaves
 
@@ -64,9 +65,9 @@ call-kept c sp w on s = go (refusals .calls c sp w)
 
 opening-kept : (P M : ℕ) (w : List ℕ) → opened P M w .refusal ≡ 0
     → KeptSound (record { page = P; limit = M; end = 0; count = 0 }) w (opened P M w .state) (opened P M w .words)
-opening-kept P M w e = go (openingb P M (length w)) refl
+opening-kept P M w e = go (rangesb P M 0 0 (length w)) refl
   where
-    go : (t : Bool) → openingb P M (length w) ≡ t
+    go : (t : Bool) → rangesb P M 0 0 (length w) ≡ t
         → KeptSound (record { page = P; limit = M; end = 0; count = 0 }) w (opened P M w .state) (opened P M w .words)
     go true f =
         rw (opened-done P M w f)

@@ -1,11 +1,6 @@
 -- The proofs of the statements in specs/, and the laws that they share.
 pub mod Lists
-pub mod KeepLaws
-pub mod ReleaseLaws
-pub mod EditLaws
-pub mod PlaceRule
-pub mod LongerLaws
-pub mod AcceptedLaws
+pub mod LiveLaws
 pub mod Refusals
 pub mod Keeps
 pub mod Edits

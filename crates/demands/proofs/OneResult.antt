@@ -11,7 +11,8 @@ use mathlib.Core.List.{List}
 use mathlib.Core.Path.{_≡_, refl, sym, ap, _∙_}
 use lib.Dec.{eqb}
 use Rattle.demands.specs.Demands.{Unique, OneResult}
-use Rattle.space.specs.Answers.{openNumber, allocateNumber, addressOf, releaseNumber, extendNumber, shortenNumber, listNumber, countOf, Outcome, notSound, unknownCode, zeroAsked, beyondLimit, notLive, noRoomBehind, tooLittleLeft}
+use Rattle.space.specs.Answers.{notSound, unknownCode, zeroAsked, beyondLimit, notLive, noRoomBehind, tooLittleLeft}
+use Rattle.space.specs.Answers.{openNumber, allocateNumber, addressOf, releaseNumber, extendNumber, shortenNumber, listNumber, countOf, Outcome}
 use Rattle.space.specs.Giving.{released, extended, shortened}
 use Rattle.space.specs.Listing.{ListOutcome, listed}
 use Rattle.space.specs.Opening.{opened, defaultPage, defaultLimit}
@@ -23,6 +24,7 @@ use Rattle.space.specs.declared.answers.ListAnswer.{ListAnswer}
 use Rattle.space.specs.declared.answers.OpenAnswer.{OpenAnswer}
 use Rattle.space.specs.declared.answers.ReleaseAnswer.{ReleaseAnswer}
 use Rattle.space.specs.declared.answers.ShortenAnswer.{ShortenAnswer}
+use Rattle.space.specs.declared.answers.NotFound.the-variants.{NotLive}
 use Rattle.space.specs.declared.answers.OpenAnswer.the-variants as opening
 use Rattle.space.specs.declared.answers.AllocateAnswer.the-variants as allocating
 use Rattle.space.specs.declared.answers.ReleaseAnswer.the-variants as releasing
@@ -52,14 +54,14 @@ allocateOf k a =
 releaseOf : ℕ → ReleaseAnswer
 releaseOf k =
     cond (eqb k 0) releasing.Done
-    (cond (eqb k notSound) releasing.NotSound (cond (eqb k notLive) releasing.NotLive releasing.TableFull))
+    (cond (eqb k notSound) releasing.NotSound (cond (eqb k notLive) (releasing.NotFound NotLive) releasing.TableFull))
 
 extendOf : ℕ → ExtendAnswer
 extendOf k =
     cond (eqb k 0) extending.Done
     (cond (eqb k notSound) extending.NotSound
     (cond (eqb k zeroAsked) extending.NoBytes
-    (cond (eqb k notLive) extending.NotLive
+    (cond (eqb k notLive) (extending.NotFound NotLive)
     (cond (eqb k noRoomBehind) extending.NoRoomBehind (cond (eqb k beyondLimit) extending.BeyondLimit extending.TableFull)))))
 
 shortenOf : ℕ → ShortenAnswer
@@ -67,7 +69,7 @@ shortenOf k =
     cond (eqb k 0) shortening.Done
     (cond (eqb k notSound) shortening.NotSound
     (cond (eqb k zeroAsked) shortening.NoBytes
-    (cond (eqb k notLive) shortening.NotLive (cond (eqb k tooLittleLeft) shortening.TooLittleLeft shortening.TableFull))))
+    (cond (eqb k notLive) (shortening.NotFound NotLive) (cond (eqb k tooLittleLeft) shortening.TooLittleLeft shortening.TableFull))))
 
 listOf : ℕ → ℕ → ListAnswer
 listOf k count =
@@ -92,7 +94,7 @@ release-back : (a : ReleaseAnswer) → releaseOf (releaseNumber a) ≡ a
 unfolding releaseOf
 release-back releasing.Done = refl
 release-back releasing.NotSound = refl
-release-back releasing.NotLive = refl
+release-back (releasing.NotFound NotLive) = refl
 release-back releasing.TableFull = refl
 
 extend-back : (a : ExtendAnswer) → extendOf (extendNumber a) ≡ a
@@ -100,7 +102,7 @@ unfolding extendOf
 extend-back extending.Done = refl
 extend-back extending.NotSound = refl
 extend-back extending.NoBytes = refl
-extend-back extending.NotLive = refl
+extend-back (extending.NotFound NotLive) = refl
 extend-back extending.NoRoomBehind = refl
 extend-back extending.BeyondLimit = refl
 extend-back extending.TableFull = refl
@@ -110,7 +112,7 @@ unfolding shortenOf
 shorten-back shortening.Done = refl
 shorten-back shortening.NotSound = refl
 shorten-back shortening.NoBytes = refl
-shorten-back shortening.NotLive = refl
+shorten-back (shortening.NotFound NotLive) = refl
 shorten-back shortening.TooLittleLeft = refl
 shorten-back shortening.TableFull = refl
 

@@ -10,19 +10,19 @@ use Prim.Native.Nat.{ℕ, _<_}
 use mathlib.Core.List.{List}
 use mathlib.Core.Path.{_≡_, sym, _∙_}
 use native.Mathlib.Omega.{arith}
-use Rattle.choose.proofs.BestLaws.{entry-among}
 use Rattle.choose.specs.Choose.{BestAt}
-use Rattle.demands.proofs.AcceptedLaws.{allocated-put}
+use Rattle.accepted.proofs.AcceptedLaws.{allocated-put}
 use Rattle.demands.specs.Calls.{allocates, called}
 use Rattle.demands.specs.Demands.{Accepted, Placing}
-use Rattle.demands.specs.Places.{PlaceIs, in-section, at-the-end, InSection, in-small-entry, in-page, in-large-entry, NoSection}
+use Rattle.accepted.specs.Places.{PlaceIs, in-section, at-the-end, InSection, in-small-entry, in-page, in-large-entry, NoSection}
 use Rattle.pages.proofs.PageLaws.{borders, page-pos}
 use Rattle.pages.specs.Pages.{FirstBorder}
-use Rattle.pieces.proofs.PieceLaws.{small-large}
+use Rattle.pieces.proofs.PieceLaws.{entry-among, small-large}
 use Rattle.pieces.specs.declared.Class.{Class}
 use Rattle.pieces.specs.declared.Piece.{Piece}
+use Rattle.requests.specs.Requests.{classFor}
 use Rattle.space.specs.Answers.{entriesOf}
-use Rattle.space.specs.Placing.{classFor, allocated}
+use Rattle.space.specs.Placing.{allocated}
 use Rattle.space.specs.declared.Space.{Space}
 
 pub section-then-none : {P s b : ℕ} {k : Class} {es : List Piece} → InSection P k s es b → NoSection P k s es → ⊥

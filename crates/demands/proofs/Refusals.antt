@@ -1,35 +1,39 @@
 -- Demand 1: a refused call returns its number, the state as given and every lent word as it came.
 --
---   refusing-answered     one refusal more in front of an answer
+--   refusing-in           one refusal more in front of what a call leaves: refusing-answered, refusing-place, refusing-list
 --   settled-answered      a change that may find the table full
---   refusing-place, refusing-list    the same of a place and of a listing
+--   naming-answered       the front of the calls that name a piece
 --   refusals              the statement
 --
 -- Assumes nothing.
 use Prim.Native.Nat.{ℕ}
 use mathlib.Core.Bool.{Bool, true, false, cond}
 use mathlib.Core.List.{List, [], _∷_, List·Memᴰ, List·Memᴰ·head, List·Memᴰ·tail as on}
-use mathlib.Core.Path.{_≡_, refl, ap}
+use mathlib.Core.Path.{_≡_, refl, ap, _∙_}
 use lib.Dec.{eqb}
 use lib.ListN.{length, replicate}
 use borrow.Author.Tests.{eqb-true}
 use Rattle.choose.specs.declared.place.Place.{Place}
-use Rattle.demands.specs.Calls.{Call, called, refusalsOf, listRefusals, handedBack, OnSpace, allocating, releasing, extending, shortening, opens, allocates, releases, extends, shortens}
+use Rattle.demands.specs.Calls.{Call, called, refusalsOf, listRefusals, handedBack, OnSpace, allocating, releasing, extending, shortening}
+use Rattle.demands.specs.Calls.{opens, allocates, releases, extends, shortens}
 use Rattle.demands.specs.Demands.{Answered, accepted, refused, listOutcome, Refusals}
-use Rattle.find.specs.Find.{findLive}
-use Rattle.find.specs.declared.Found.the-variants.{At, Missing}
-use Rattle.find.specs.declared.Found.{Found}
+use Rattle.pages.proofs.Numbers.{not-both}
 use Rattle.pieces.specs.declared.Class.{Class}
 use Rattle.pieces.specs.declared.Piece.{Piece}
-use Rattle.space.proofs.GiveLaws.{released-unsound, extended-unsound, shortened-unsound}
+use Rattle.space.proofs.GiveLaws.{naming-unsound, released-naming, extended-naming, shortened-naming}
 use Rattle.space.proofs.OpenLaws.{nowhere-unsound}
 use Rattle.space.proofs.PlaceLaws.{allocated-unsound}
-use Rattle.space.specs.Answers.{outOfRange, notSound, tableFull, noAddress, entriesOf, Outcome, refusing, settled}
-use Rattle.space.specs.Giving.{releasedAt, released, extendedAt, extended, shortenedAt, shortened}
-use Rattle.space.specs.Listing.{ListOutcome, refusingList, listedAs, listed}
-use Rattle.space.specs.Opening.{openingb, nowhere, opened}
-use Rattle.space.specs.Placing.{Placed, refusingPlace, placedAt, placed, allocated}
+use Rattle.space.specs.Answers.{outOfRange, notSound, zeroAsked, tableFull, noAddress, notFoundNumber, Outcome, refusing, plain, settled}
+use Rattle.space.specs.Giving.{namedIn, whenNamed, naming, releasedAt, released, extendedAt, extended, shortenedAt, shortened}
+use Rattle.space.specs.Listing.{ListOutcome, uncounted, listedAs, listed}
+use Rattle.space.specs.Opening.{nowhere, opened}
+use Rattle.space.specs.Placing.{Placed, unplaced, placedAt, placed, allocated}
 use Rattle.space.specs.declared.Space.{Space}
+use Rattle.space.specs.declared.answers.NotFound.the-variants.{NotLive}
+use Rattle.space.specs.declared.answers.NotFound.{NotFound}
+use Rattle.space.specs.declared.give.Named.the-variants.{At, Not}
+use Rattle.space.specs.declared.give.Named.{Named}
+use Rattle.table.specs.Local.{rangesb}
 
 -- ---- one refusal more
 
@@ -40,32 +44,51 @@ module _ {ks : List ℕ} {sp : Space} {w : List ℕ} where
   refused-answered : {k : ℕ} → List·Memᴰ k ks → Answered ks sp w (record { refusal = k; state = sp; words = w })
   refused-answered i = refused i refl refl
 
-  pub refusing-answered : {k : ℕ} {o : Outcome} (t : Bool) → List·Memᴰ k ks → Answered ks sp w o → Answered ks sp w (refusing sp w t k o)
+  -- one refusal more in front of what a call leaves, in any form
+  refusing-in : {A : Type 0} (form : Outcome → A) (back : A → Outcome) → ((v : Outcome) → back (form v) ≡ v) → {k : ℕ} (o : A) (t : Bool)
+      → List·Memᴰ k ks → Answered ks sp w (back o) → Answered ks sp w (back (refusing form sp w t k o))
   unfolding refusing
-  refusing-answered true i h = refused-answered i
-  refusing-answered false i h = h
+  refusing-in form back is o true i h = rw is (refused-answered i)
+  refusing-in form back is o false i h = h
+
+  pub refusing-answered : {k : ℕ} {o : Outcome} (t : Bool) → List·Memᴰ k ks → Answered ks sp w o → Answered ks sp w (refusing plain sp w t k o)
+  refusing-answered {o = o} t i h = refusing-in plain plain (λ v. refl) o t i h
+
+  refusing-place : {k : ℕ} (p : Placed) (t : Bool) → List·Memᴰ k ks → Answered ks sp w (p .outcome)
+      → Answered ks sp w (refusing unplaced sp w t k p .outcome)
+  refusing-place p t i h = refusing-in unplaced (λ p. p .outcome) (λ v. refl) p t i h
+
+  refusing-list : {k : ℕ} (o : ListOutcome) (t : Bool) → List·Memᴰ k ks → Answered ks sp w (listOutcome o)
+      → Answered ks sp w (listOutcome (refusing uncounted sp w t k o))
+  refusing-list o t i h = refusing-in uncounted listOutcome (λ v. refl) o t i h
 
   pub settled-answered : (ps : List Piece) → List·Memᴰ tableFull ks → Answered ks sp w (settled sp w ps)
   unfolding settled
   settled-answered ps i = refusing-answered _ i (accepted refl)
 
-  -- the outcome of a refused place, and of a refused listing
-  refusing-place : {k : ℕ} (p : Placed) (t : Bool) → List·Memᴰ k ks → Answered ks sp w (p .outcome) → Answered ks sp w (refusingPlace sp w t k p .outcome)
-  unfolding refusingPlace
-  refusing-place p true i h = refused-answered i
-  refusing-place p false i h = h
+  -- 4 is among the numbers where the call has that refusal
+  zero-answered : {o : Outcome} (t : Bool) → (t ≡ true → List·Memᴰ zeroAsked ks) → Answered ks sp w o
+      → Answered ks sp w (refusing plain sp w t zeroAsked o)
+  unfolding refusing
+  zero-answered true j h = refused-answered (j refl)
+  zero-answered false j h = h
 
-  refusing-list : {k : ℕ} (o : ListOutcome) (t : Bool) → List·Memᴰ k ks → Answered ks sp w (listOutcome o)
-      → Answered ks sp w (listOutcome (refusingList sp w t k o))
-  unfolding refusingList
-  refusing-list o true i h = refused-answered i
-  refusing-list o false i h = h
+  -- the front of the calls that name a piece
+  naming-answered : (zero : Bool) (a z : ℕ) (found : ℕ → Piece → Outcome) → List·Memᴰ notSound ks → (zero ≡ true → List·Memᴰ zeroAsked ks)
+      → ((why : NotFound) → List·Memᴰ (notFoundNumber why) ks) → ((i : ℕ) (x : Piece) → Answered ks sp w (found i x))
+      → Answered ks sp w (naming sp w zero a z found)
+  unfolding naming whenNamed
+  naming-answered zero a z found i j n h = refusing-answered _ i (zero-answered zero j (named (namedIn sp w a z)))
+    where
+      named : (r : Named) → Answered ks sp w (whenNamed sp w found r)
+      named (Not why) = refused-answered (n why)
+      named (At k x) = h k x
 
 -- ---- each call
 
 opened-answered : (P M : ℕ) (w : List ℕ) → Answered (outOfRange ∷ []) nowhere w (opened P M w)
 unfolding opened
-opened-answered P M w = go (openingb P M (length w))
+opened-answered P M w = go (rangesb P M 0 0 (length w))
   where
     go : (t : Bool) → Answered (outOfRange ∷ []) nowhere w
         (cond t (record { refusal = 0; state = record { page = P; limit = M; end = 0; count = 0 }; words = replicate (length w) 0 })
@@ -85,28 +108,31 @@ module _ (sp : Space) (w : List ℕ) where
 
   released-answered : (a z : ℕ) → Answered (refusalsOf (releases a z)) sp w (released sp a z w)
   unfolding released releasedAt
-  released-answered a z = refusing-answered _ here (go (findLive a z 0 (entriesOf sp w)))
+  released-answered a z =
+      naming-answered false a z (releasedAt sp a z w) here (λ e. absurd (not-both e refl)) numbers (λ i x. settled-answered _ (on (on here)))
     where
-      go : (f : Found) → Answered (refusalsOf (releases a z)) sp w (releasedAt sp a z w f)
-      go Missing = refused-answered (on here)
-      go (At i x) = settled-answered _ (on (on here))
+      numbers : (why : NotFound) → List·Memᴰ (notFoundNumber why) (refusalsOf (releases a z))
+      numbers NotLive = on here
 
   extended-answered : (a z m : ℕ) → Answered (refusalsOf (extends a z m)) sp w (extended sp a z m w)
   unfolding extended extendedAt
-  extended-answered a z m = refusing-answered _ here (refusing-answered _ (on here) (go (findLive a z 0 (entriesOf sp w))))
+  extended-answered a z m =
+      naming-answered _ a z (extendedAt sp a z m w) here (λ e. on here) numbers
+      (λ i x. refusing-answered _ (on (on (on here)))
+      (refusing-answered _ (on (on (on (on here)))) (settled-answered _ (on (on (on (on (on here)))))))
+      )
     where
-      go : (f : Found) → Answered (refusalsOf (extends a z m)) sp w (extendedAt sp a z m w f)
-      go Missing = refused-answered (on (on here))
-      go (At i x) =
-          refusing-answered _ (on (on (on here))) (refusing-answered _ (on (on (on (on here)))) (settled-answered _ (on (on (on (on (on here)))))))
+      numbers : (why : NotFound) → List·Memᴰ (notFoundNumber why) (refusalsOf (extends a z m))
+      numbers NotLive = on (on here)
 
   shortened-answered : (a z k : ℕ) → Answered (refusalsOf (shortens a z k)) sp w (shortened sp a z k w)
   unfolding shortened shortenedAt
-  shortened-answered a z k = refusing-answered _ here (refusing-answered _ (on here) (go (findLive a z 0 (entriesOf sp w))))
+  shortened-answered a z k =
+      naming-answered _ a z (shortenedAt sp a z k w) here (λ e. on here) numbers
+      (λ i x. refusing-answered _ (on (on (on here))) (settled-answered _ (on (on (on (on here))))))
     where
-      go : (f : Found) → Answered (refusalsOf (shortens a z k)) sp w (shortenedAt sp a z k w f)
-      go Missing = refused-answered (on (on here))
-      go (At i x) = refusing-answered _ (on (on (on here))) (settled-answered _ (on (on (on (on here)))))
+      numbers : (why : NotFound) → List·Memᴰ (notFoundNumber why) (refusalsOf (shortens a z k))
+      numbers NotLive = on (on here)
 
 calls-answered : (c : Call) (sp : Space) (w : List ℕ) → Answered (refusalsOf c) (handedBack c sp) w (called c sp w)
 unfolding called
@@ -116,12 +142,17 @@ calls-answered (releases a z) sp w = released-answered sp w a z
 calls-answered (extends a z m) sp w = extended-answered sp w a z m
 calls-answered (shortens a z k) sp w = shortened-answered sp w a z k
 
+-- the front refuses what is not sound
+nowhere-naming : (w : List ℕ) (zero : Bool) (a z : ℕ) (found : ℕ → Piece → Outcome) (o : Outcome) → o ≡ naming nowhere w zero a z found
+    → o .refusal ≡ notSound
+nowhere-naming w zero a z found o e = ap (λ (v : Outcome). v .refusal) (e ∙ naming-unsound nowhere w zero a z found (nowhere-unsound w))
+
 nowhere-calls : (c : Call) (w : List ℕ) → OnSpace c → called c nowhere w .refusal ≡ notSound
 unfolding called
 nowhere-calls c w (allocating {t = t} {s = s}) = ap (λ (p : Placed). p .outcome .refusal) (allocated-unsound nowhere t s w (nowhere-unsound w))
-nowhere-calls c w (releasing {a = a} {z = z}) = ap (λ (o : Outcome). o .refusal) (released-unsound nowhere a z w (nowhere-unsound w))
-nowhere-calls c w (extending {a = a} {z = z} {m = m}) = ap (λ (o : Outcome). o .refusal) (extended-unsound nowhere a z m w (nowhere-unsound w))
-nowhere-calls c w (shortening {a = a} {z = z} {k = k}) = ap (λ (o : Outcome). o .refusal) (shortened-unsound nowhere a z k w (nowhere-unsound w))
+nowhere-calls c w (releasing {a = a} {z = z}) = nowhere-naming w _ a z _ _ (released-naming nowhere a z w)
+nowhere-calls c w (extending {a = a} {z = z} {m = m}) = nowhere-naming w _ a z _ _ (extended-naming nowhere a z m w)
+nowhere-calls c w (shortening {a = a} {z = z} {k = k}) = nowhere-naming w _ a z _ _ (shortened-naming nowhere a z k w)
 
 -- ---- the address answer
 
@@ -130,8 +161,8 @@ data Addressed (p : Placed) : Type 0 where
   some-address : p .outcome .refusal ≡ 0 → Addressed p
   none-address : p .address ≡ noAddress → Addressed p
 
-refusing-addressed : (sp : Space) (w : List ℕ) (t : Bool) (k : ℕ) (p : Placed) → Addressed p → Addressed (refusingPlace sp w t k p)
-unfolding refusingPlace
+refusing-addressed : (sp : Space) (w : List ℕ) (t : Bool) (k : ℕ) (p : Placed) → Addressed p → Addressed (refusing unplaced sp w t k p)
+unfolding refusing
 refusing-addressed sp w true k p h = none-address refl
 refusing-addressed sp w false k p h = h
 
@@ -146,7 +177,8 @@ placed-addressed b o = go (eqb (o .refusal) 0) refl
 allocated-addressed : (sp : Space) (t s : ℕ) (w : List ℕ) → Addressed (allocated sp t s w)
 unfolding allocated placed
 allocated-addressed sp t s w =
-    refusing-addressed sp w _ _ _ (refusing-addressed sp w _ _ _ (refusing-addressed sp w _ _ _ (refusing-addressed sp w _ _ _ (placed-addressed _ _))))
+    refusing-addressed sp w _ _ _
+    (refusing-addressed sp w _ _ _ (refusing-addressed sp w _ _ _ (refusing-addressed sp w _ _ _ (placed-addressed _ _))))
 
 no-address : {p : Placed} → Addressed p → (p .outcome .refusal ≡ 0 → ⊥) → p .address ≡ noAddress
 no-address (some-address e) n = absurd (n e)
@@ -164,8 +196,8 @@ module _ (sp : Space) (m : ℕ) (w v : List ℕ) where
     counted : o .refusal ≡ 0 → o .state ≡ sp → Counted o
     not-counted : o .count ≡ 0 → o .state ≡ sp → Counted o
 
-  refusing-counted : (t : Bool) (k : ℕ) (o : ListOutcome) → Counted o → Counted (refusingList sp v t k o)
-  unfolding refusingList
+  refusing-counted : (t : Bool) (k : ℕ) (o : ListOutcome) → Counted o → Counted (refusing uncounted sp v t k o)
+  unfolding refusing
   refusing-counted true k o h = not-counted refl refl
   refusing-counted false k o h = h
 

@@ -14,11 +14,13 @@ use Rattle.find.specs.Find.{namedb, findLive}
 use Rattle.pages.specs.Pages.{down, up}
 use Rattle.pieces.specs.Pieces.{statusOf}
 use Rattle.pieces.specs.Words.{entryAt, entries, words, table}
+use Rattle.requests.specs.Requests.{classFor}
+use Rattle.room.specs.Room.{smallRoomb, largeRoomb, roomBehindb, growsBeyondb, remainsb}
 use Rattle.rules.specs.Editing.{insert, remove, resize}
 use Rattle.space.specs.Answers.{Outcome, refusing, settled}
-use Rattle.space.specs.Giving.{releasedAt, released, smallRoomb, largeRoomb, roomBehindb, growsBeyondb, extendedAt, extended, remainsb, shortenedAt, shortened}
-use Rattle.space.specs.Opening.{openingb, opened}
-use Rattle.space.specs.Placing.{classFor, refusingPlace, placedAt, placed, allocated}
+use Rattle.space.specs.Giving.{whenNamed, naming, releasedAt, released, extendedAt, extended, shortenedAt, shortened}
+use Rattle.space.specs.Opening.{opened}
+use Rattle.space.specs.Placing.{placedAt, placed, allocated}
 use Rattle.table.specs.Fill.{lives, free, lo, hi, gap, fillFrom, fill, lastEnd, endOf}
 use Rattle.table.specs.Local.{tableLengthb, rangesb, kindsb, zerosb, shapeb, besideb, cutb, entryb, chainb, localb}
 
@@ -27,7 +29,7 @@ abbrev start : Outcome
 start = record { refusal = 0; state = record { page = 512; limit = 5120; end = 0; count = 0 }; words = replicate 36 0 }
 
 begun-over : (w : List ℕ) → length w ≡ 36 → begun w ≡ start
-unfolding opened openingb tableLengthb
+unfolding opened rangesb tableLengthb
 begun-over w e = rw e
 
 -- ---- the rules compute
@@ -40,7 +42,14 @@ record FromStart : Type 0 where
   exchanged-ends : ran (callsOf exchangedSteps) (start .state) (start .words) ≡ leftAfterTwelve
 
 from-start : FromStart
-unfolding down up statusOf entryAt entries words table lives free lo hi gap fillFrom fill lastEnd endOf tableLengthb rangesb kindsb zerosb shapeb besideb cutb entryb chainb localb roomIn fitsIn bestOf best largePlaceFor smallPlaceFor placeFor namedb findLive insert remove resize refusing settled classFor refusingPlace placedAt placed allocated releasedAt released smallRoomb largeRoomb roomBehindb growsBeyondb extendedAt extended remainsb shortenedAt shortened called ran answered played callsOf
+unfolding down up statusOf entryAt entries words table
+    lives free lo hi gap fillFrom fill lastEnd endOf
+    tableLengthb rangesb kindsb zerosb shapeb besideb cutb entryb chainb localb
+    roomIn fitsIn bestOf best largePlaceFor smallPlaceFor placeFor classFor namedb findLive
+    smallRoomb largeRoomb roomBehindb growsBeyondb remainsb
+    insert remove resize refusing settled placedAt placed allocated
+    whenNamed naming releasedAt released extendedAt extended shortenedAt shortened
+    called ran answered played callsOf
 from-start = record { twelve = refl; after-five = refl; after-twelve = refl; exchanged = refl; exchanged-ends = refl }
 
 -- ---- the statement

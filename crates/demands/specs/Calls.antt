@@ -10,15 +10,13 @@
 --   releasesOf ns        the run that releases each piece named
 --   removeAll ns ps      the live pieces ps without those named
 --
---   livesOf sp w         the live pieces of a table
 --   livesAfter c sp w    those that the call c leaves
 --   edited c sp w        those that it is to leave if it is accepted: the new piece inserted, the named one removed or resized
 --   Unnamed c x          x is not the piece that c names
---   SoundSpace sp w      state and table are sound together
 --   IsLive es n          a live entry of es has this address and size
 --   Distinct ns          no name stands twice in ns
 --
--- Assumes nothing.
+-- `SoundSpace` and `livesOf`, state and table sound together and the live pieces of a table, are in space/specs/Answers.antt. Assumes nothing.
 use Prim.Native.Nat.{ℕ, _+_, _-_}
 use mathlib.Core.List.{List, [], _∷_, List·Memᴰ}
 use mathlib.Core.Path.{_≡_}
@@ -26,14 +24,14 @@ use Rattle.find.specs.Find.{Named}
 use Rattle.pieces.specs.Pieces.{piece}
 use Rattle.pieces.specs.declared.Piece.{Piece}
 use Rattle.pieces.specs.declared.Status.the-variants.{Live}
+use Rattle.requests.specs.Requests.{classFor}
 use Rattle.rules.specs.Editing.{Name, insert, remove, resize}
-use Rattle.space.specs.Answers.{entriesOf, Outcome, outOfRange, notSound, unknownCode, zeroAsked, beyondLimit, tableFull, notLive, noRoomBehind, tooLittleLeft, sliceTooShort}
+use Rattle.space.specs.Answers.{outOfRange, notSound, unknownCode, zeroAsked, beyondLimit, tableFull, notLive, noRoomBehind, tooLittleLeft, sliceTooShort}
+use Rattle.space.specs.Answers.{livesOf, Outcome}
 use Rattle.space.specs.Giving.{nameOf, released, extended, shortened}
 use Rattle.space.specs.Opening.{nowhere, opened}
-use Rattle.space.specs.Placing.{classFor, allocated}
+use Rattle.space.specs.Placing.{allocated}
 use Rattle.space.specs.declared.Space.{Space}
-use Rattle.table.specs.Fill.{lives}
-use Rattle.table.specs.Sound.{Sound}
 
 -- ---- the calls
 
@@ -104,9 +102,6 @@ removeAll (n ∷ ns) ps = removeAll ns (remove n ps)
 
 -- ---- the live pieces
 
-abbrev pub livesOf : Space → List ℕ → List Piece
-livesOf sp w = lives (entriesOf sp w)
-
 abbrev pub livesAfter : Call → Space → List ℕ → List Piece
 livesAfter c sp w = livesOf (called c sp w .state) (called c sp w .words)
 
@@ -128,9 +123,6 @@ Unnamed (extends a z m) x = Other a z x
 Unnamed (shortens a z k) x = Other a z x
 
 -- ---- what is asked of state, table and names
-
-abbrev pub SoundSpace : Space → List ℕ → Type 0
-SoundSpace sp w = Sound (sp .page) (sp .limit) (sp .end) (sp .count) w
 
 pub record IsLive (es : List Piece) (n : Name) : Type 0 where
   pub entry : Piece

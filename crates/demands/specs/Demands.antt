@@ -12,24 +12,39 @@
 --   TheRun          the run with P = 512, M = 5,120, C = 12: twelve steps, their answers and ends, and the words
 --   OneResult       each call's promise allows one result: answer, state and lent words
 --
+-- The words that they use, in their order; those of the calls are in Calls.antt, of the rows in Rows.antt, of the run in Run.antt:
+--
+--   Answered ks sp w o      o is accepted, or refused with one of the numbers ks, with the state sp and the words w
+--   listOutcome o           the outcome of a listing, by number, state and words
+--   Covers sp w             the entries of w cover the file with no gap and no overlap
+--   KeptSound sp w next v   next and v are sound together and cover the file, with P, M and the slice's length of sp and w
+--   Accepted c sp w         the call c is accepted of a sound table
+--   NotLive sp w a b        the bytes from a up to b are in no live piece
+--   Releasable sp w ns      state and table are sound together, and ns are distinct live pieces by their true address and size
+--   acceptedAll sp w k ps   k calls are accepted, and leave the state and every word that the live pieces ps determine
+--   RunOver w               the run, over a table of the words w
+--   Unique said o           one result, and one list of words, say o
+--
 -- Assumes nothing.
 use Prim.Native.Nat.{ℕ, _+_, _≤_, _<_}
 use mathlib.Core.List.{List, List·Memᴰ, List·Permᴰ}
 use mathlib.Core.Path.{_≡_}
 use lib.ListN.{length, replicate}
-use Rattle.demands.specs.Calls.{Call, allocates, extends, livesOf, livesAfter, edited, Unnamed, called, refusalsOf, listRefusals, handedBack, OnSpace, Ran, ran, releasesOf, removeAll, SoundSpace, IsLive, Distinct}
-use Rattle.demands.specs.Places.{PlaceIs}
+use Rattle.accepted.specs.Places.{PlaceIs}
+use Rattle.demands.specs.Calls.{Call, allocates, extends, livesAfter, edited, Unnamed, called, refusalsOf, listRefusals, handedBack, OnSpace}
+use Rattle.demands.specs.Calls.{Ran, ran, releasesOf, removeAll, IsLive, Distinct}
 use Rattle.demands.specs.Rows.{Row, ListRow}
 use Rattle.demands.specs.Run.{fiveSteps, twelveSteps, exchangedSteps, leftAfterFive, leftAfterTwelve, begun, playedOver, ranOver}
 use Rattle.pieces.specs.Words.{entryAt, table}
 use Rattle.pieces.specs.declared.Class.{Class}
 use Rattle.pieces.specs.declared.Piece.{Piece}
+use Rattle.requests.specs.Requests.{classFor}
 use Rattle.rules.specs.Editing.{Name}
-use Rattle.space.specs.Answers.{notSound, noAddress, entriesOf, Outcome, stateOf}
+use Rattle.space.specs.Answers.{notSound, noAddress, SoundSpace, entriesOf, livesOf, Outcome, stateOf}
 use Rattle.space.specs.Giving.{released, extended, shortened}
 use Rattle.space.specs.Listing.{ListOutcome, listed}
 use Rattle.space.specs.Opening.{nowhere, opened, defaultPage, defaultLimit}
-use Rattle.space.specs.Placing.{classFor, allocated}
+use Rattle.space.specs.Placing.{allocated}
 use Rattle.space.specs.Said.{openSaid, allocateSaid, releaseSaid, extendSaid, shortenSaid, listSaid}
 use Rattle.space.specs.declared.Space.{Space}
 use Rattle.table.specs.Fill.{fill}

@@ -2,6 +2,5 @@
 
 pub mod Calls
 pub mod Run
-pub mod Places
 pub mod Rows
 pub mod Demands

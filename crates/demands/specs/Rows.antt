@@ -18,19 +18,20 @@ use Prim.Native.Nat.{ℕ, _+_, _-_, _*_, _≤_, _<_}
 use mathlib.Core.List.{List, List·Memᴰ}
 use mathlib.Core.Path.{_≡_}
 use lib.ListN.{length}
-use Rattle.demands.specs.Calls.{Call, opens, allocates, releases, extends, shortens, SoundSpace, IsLive, livesOf}
-use Rattle.demands.specs.Places.{NoSection, PlaceIs}
+use Rattle.accepted.specs.Places.{NoSection, PlaceIs}
+use Rattle.demands.specs.Calls.{Call, opens, allocates, releases, extends, shortens, IsLive}
 use Rattle.pages.specs.Pages.{Border, up}
 use Rattle.pieces.specs.Pieces.{piece, Small, IsFree}
 use Rattle.pieces.specs.declared.Class.the-variants.{Large}
 use Rattle.pieces.specs.declared.Class.{Class}
 use Rattle.pieces.specs.declared.Piece.{Piece}
 use Rattle.pieces.specs.declared.Status.the-variants.{Live, Free}
+use Rattle.requests.specs.Requests.{metadataCode, rawCode, largeCode, classFor, classOfManager}
 use Rattle.rules.specs.Editing.{insert, remove, resize}
-use Rattle.space.specs.Answers.{outOfRange, notSound, unknownCode, zeroAsked, beyondLimit, tableFull, notLive, noRoomBehind, tooLittleLeft, sliceTooShort, entriesOf}
+use Rattle.sections.specs.Sections.{sections, pairWords}
+use Rattle.space.specs.Answers.{outOfRange, notSound, unknownCode, zeroAsked, beyondLimit, tableFull, notLive, noRoomBehind, tooLittleLeft, sliceTooShort}
+use Rattle.space.specs.Answers.{SoundSpace, entriesOf, livesOf}
 use Rattle.space.specs.Giving.{nameOf}
-use Rattle.space.specs.Listing.{classOfManager, sections, pairWords, largeCode}
-use Rattle.space.specs.Placing.{metadataCode, rawCode, classFor}
 use Rattle.space.specs.declared.Space.{Space}
 use Rattle.table.specs.Fill.{fill}
 use Rattle.table.specs.Sound.{capacity, Ranges}

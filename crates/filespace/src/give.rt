@@ -11,6 +11,7 @@ use crate::report;
 use crate::report::Run;
 use crate::say;
 use pieces::ENTRY_WORDS;
+use sections::PAIR_WORDS;
 use space::Space;
 use space::answers::DONE;
 use space::answers::Opened;
@@ -22,9 +23,6 @@ use space::answers::list_number;
 use space::answers::open_number;
 use space::answers::release_number;
 use space::answers::shorten_number;
-
-// Address and size.
-const PAIR_WORDS: usize = 2;
 
 // The words of a table that is lent anew.
 fn clear(table: &mut [u64]) {

@@ -110,13 +110,7 @@ pub fn map(run: Run, table: &[u64])
 {
     let space = run.space;
     let used = run.used;
-    if !sound::is_sound(
-        space.page,
-        space.limit,
-        space.end,
-        space.count,
-        &table[..used],
-    ) {
+    if !space.is_sound(&table[..used]) {
         say::text(b"no map: state and table are not sound together\n");
         return;
     }

@@ -26,7 +26,7 @@ use Rattle.rules.specs.Editing.{Name, names, remove, resize}
 use Rattle.table.proofs.Canon.{canon, Widen, widened}
 use Rattle.table.proofs.Chain.{ChainFrom, step, Chain}
 use Rattle.table.proofs.GapLaws.{gap-here, apart-le}
-pub use Rattle.table.proofs.LivesLaws.{lives-append}
+use Rattle.table.proofs.LivesLaws.{lives-append}
 use Rattle.table.specs.Fill.{lives, free, gap, fillFrom, fill, lastEnd, GoodFrom, none, next}
 
 pub fill-append : (P : ℕ) (k : Class) (a : ℕ) (ps qs : List Piece)

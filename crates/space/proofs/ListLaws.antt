@@ -1,222 +1,66 @@
--- Laws of a listing.
+-- Laws of a listing, refusal by refusal.
 --
---   passed k w i              the sections of class k among the first i entries of w
---   written k w i v           the words v with the pairs of those sections in front
---   Writing k w i v out at    the loop that writes into v has passed i entries: out is what v is now, and at is behind the last pair
+--   listed-unsound, -unknown          2 and 3
+--   listed-short, listed-written      what `sections` says of the slice: too short, or the sections
 --
--- In this order: which codes are managers, and their classes (manager, class); one entry more (passed, count);
--- how many sections there can be (few); one pair more (writing); the whole call, refused and done (listed).
---
--- Not here: laws of lists (lib.ListN, lib.Seq), and of a table's entries (pieces' WordLaws). Assumes nothing.
-use Prim.Native.Nat.{ℕ, suc, _+_, _-_, _*_, _≤_, _<_}
-use mathlib.Core.Bool.{Bool, true, false, cond}
-use mathlib.Core.List.{List, [], _∷_, _++_, append-nil}
-use mathlib.Core.Path.{_≡_, refl, sym, ap, _∙_}
-use native.Mathlib.Nat.{zero-add, le-refl}
-use native.Mathlib.Numerals.{add-one}
-use native.Mathlib.Omega.{arith}
-use lib.Dec.{eqb}
-use lib.ListN.{length, drop, set, length-append, length-drop, length-set}
-use lib.Seq.{take-at, drop-at, drop-drop, sets-eq}
-use borrow.Author.Tests.{eq-eqb, ne-eqb, le-ltb, lt-ltb}
-use Rattle.pieces.proofs.WordLaws.{entries-append, length-entries}
-use Rattle.pieces.specs.Pieces.{freeOf}
-use Rattle.pieces.specs.Words.{entryWords, entryAt, entries}
-use Rattle.pieces.specs.declared.Class.the-variants.{SmallMetadata, SmallRaw, Large}
+-- Assumes nothing.
+use Prim.Native.Nat.{ℕ, _*_, _≤_, _<_}
+use mathlib.Core.Bool.{true, false, not}
+use mathlib.Core.List.{List}
+use mathlib.Core.Path.{_≡_, sym, ap, _∙_}
+use lib.ListN.{length}
+use borrow.Author.Tests.{le-ltb, lt-ltb}
+use Rattle.pages.proofs.Numbers.{split}
 use Rattle.pieces.specs.declared.Class.{Class}
 use Rattle.pieces.specs.declared.Piece.{Piece}
-use Rattle.space.specs.Answers.{notSound, unknownCode, sliceTooShort, soundb}
-use Rattle.space.specs.Listing.{largeCode, managerb, classOfManager, sections, pairWords, pairs, refusingList, listedAs, listed}
-use Rattle.space.specs.Placing.{metadataCode, rawCode}
+use Rattle.requests.specs.Requests.{managerb, classOfManager}
+use Rattle.sections.specs.Sections.{sections, pairWords, Left, listedIn}
+use Rattle.sections.specs.declared.Listing.the-variants.{Sections, SliceTooShort}
+use Rattle.sections.specs.declared.Listing.{Listing}
+use Rattle.space.proofs.AnswerLaws.{refusing-yes, refusing-no, sound-true}
+use Rattle.space.specs.Answers.{notSound, unknownCode, sliceTooShort, SoundSpace, soundb, entriesOf, refused}
+use Rattle.space.specs.Listing.{ListOutcome, uncounted, listedAs, listed}
 use Rattle.space.specs.declared.Space.{Space}
-use Rattle.table.proofs.Theorems.{local-form, count-fits}
 
--- ---- codes and classes
+-- what `sections` answers, as a listing leaves it
+abbrev pub listOutcomeOf : Space → Listing → List ℕ → ListOutcome
+listOutcomeOf sp (Sections n) v = record { refusal = 0; count = n; state = sp; words = v }
+listOutcomeOf sp SliceTooShort v = uncounted (refused sliceTooShort sp v)
 
-module _ (m : ℕ) where
-  pub manager-metadata : m ≡ metadataCode → managerb m ≡ true
-  manager-metadata h = rw (eq-eqb m metadataCode h)
-
-  pub manager-raw : (m ≡ metadataCode → ⊥) → m ≡ rawCode → managerb m ≡ true
-  manager-raw n h = rw (ne-eqb m metadataCode n, eq-eqb m rawCode h)
-
-  -- what the third code has still to say
-  pub manager-large : (m ≡ metadataCode → ⊥) → (m ≡ rawCode → ⊥) → managerb m ≡ eqb m largeCode
-  manager-large n1 n2 = rw (ne-eqb m metadataCode n1, ne-eqb m rawCode n2)
-
-  pub class-metadata : m ≡ metadataCode → classOfManager m ≡ SmallMetadata
-  unfolding classOfManager
-  class-metadata h = rw (eq-eqb m metadataCode h)
-
-  pub class-raw : (m ≡ metadataCode → ⊥) → m ≡ rawCode → classOfManager m ≡ SmallRaw
-  unfolding classOfManager
-  class-raw n h = rw (ne-eqb m metadataCode n, eq-eqb m rawCode h)
-
-  pub class-large : (m ≡ metadataCode → ⊥) → (m ≡ rawCode → ⊥) → classOfManager m ≡ Large
-  unfolding classOfManager
-  class-large n1 n2 = rw (ne-eqb m metadataCode n1, ne-eqb m rawCode n2)
-
--- ---- one entry more
-
-abbrev pub passed : Class → List ℕ → ℕ → List Piece
-passed k w i = sections k (entries w 0 i)
-
-pub passed-none : (k : Class) (w : List ℕ) → passed k w 0 ≡ []
-unfolding sections entries
-passed-none k w = refl
-
-sections-append : (k : Class) (es fs : List Piece) → sections k (es ++ fs) ≡ sections k es ++ sections k fs
-unfolding sections
-sections-append k [] fs = refl
-sections-append k (x ∷ es) fs = go (freeOf k (x .status)) (sections-append k es fs)
-  where
-    go : (t : Bool) → sections k (es ++ fs) ≡ sections k es ++ sections k fs
-        → cond t (x ∷ sections k (es ++ fs)) (sections k (es ++ fs)) ≡ cond t (x ∷ sections k es) (sections k es) ++ sections k fs
-    go true e = rw e
-    go false e = e
-
-passed-more : (k : Class) (w : List ℕ) (i j : ℕ) → passed k w (i + j) ≡ passed k w i ++ sections k (entries w i j)
-passed-more k w i j =
-    ap (sections k) (entries-append w 0 i j)
-    ∙ sections-append k (entries w 0 i) (entries w (0 + i) j)
-    ∙ ap (λ (s : ℕ). passed k w i ++ sections k (entries w s j)) (zero-add i)
-
-module _ (k : Class) (w : List ℕ) (i : ℕ) (x : Piece) (is : x ≡ entryAt w i) where
-  last-section : freeOf k (x .status) ≡ true → sections k (entries w i 1) ≡ x ∷ []
-  unfolding sections entries
-  last-section h = rw (← is, h)
-
-  last-other : freeOf k (x .status) ≡ false → sections k (entries w i 1) ≡ []
-  unfolding sections entries
-  last-other h = rw (← is, h)
-
-  pub passed-section : freeOf k (x .status) ≡ true → passed k w (i + 1) ≡ passed k w i ++ (x ∷ [])
-  passed-section h = passed-more k w i 1 ∙ ap (λ (r : List Piece). passed k w i ++ r) (last-section h)
-
-  pub passed-other : freeOf k (x .status) ≡ false → passed k w (i + 1) ≡ passed k w i
-  passed-other h = passed-more k w i 1 ∙ ap (λ (r : List Piece). passed k w i ++ r) (last-other h) ∙ append-nil (passed k w i)
-
-  pub count-section : freeOf k (x .status) ≡ true → length (passed k w (i + 1)) ≡ length (passed k w i) + 1
-  count-section h = ap length (passed-section h) ∙ length-append (passed k w i) (x ∷ [])
-
-  pub count-other : freeOf k (x .status) ≡ false → length (passed k w (i + 1)) ≡ length (passed k w i)
-  count-other h = ap length (passed-other h)
-
--- ---- how many there can be
-
-sections-few : (k : Class) (es : List Piece) → length (sections k es) ≤ length es
-unfolding sections
-sections-few k [] = le-refl 0
-sections-few k (x ∷ es) = go (freeOf k (x .status)) (sections-few k es)
-  where
-    go : (t : Bool) → length (sections k es) ≤ length es → length (cond t (x ∷ sections k es) (sections k es)) ≤ suc (length es)
-    go true h = omega arith
-    go false h = omega arith
-
-pub passed-few : (k : Class) (w : List ℕ) (i : ℕ) → length (passed k w i) ≤ i
-passed-few k w i = rw (length-entries w 0 i) at (sections-few k (entries w 0 i))
-
--- one of the first n entries is one of their sections
-section-among : (k : Class) (w : List ℕ) (n i : ℕ) (x : Piece) → x ≡ entryAt w i → freeOf k (x .status) ≡ true → i < n
-    → length (passed k w i) + 1 ≤ length (passed k w n)
-section-among k w n i x is h lt =
-    let e : i + 1 + (n - (i + 1)) ≡ n = omega arith in
-    let l : length (passed k w n) ≡ length (passed k w (i + 1)) + length (sections k (entries w (i + 1) (n - (i + 1)))) =
-    rw e at (ap length (passed-more k w (i + 1) (n - (i + 1))) ∙ length-append (passed k w (i + 1)) _) in
-    omega (arith, count-section k w i x is h)
-
--- ---- one pair more
-
-length-pairs : (xs : List Piece) → length (pairs xs) ≡ length xs * pairWords
-unfolding pairs
-length-pairs [] = refl
-length-pairs (x ∷ xs) = omega (arith, length-pairs xs)
-
-pairs-append : (xs ys : List Piece) → pairs (xs ++ ys) ≡ pairs xs ++ pairs ys
-unfolding pairs
-pairs-append [] ys = refl
-pairs-append (x ∷ xs) ys = rw (pairs-append xs ys)
-
-abbrev pub written : Class → List ℕ → ℕ → List ℕ → List ℕ
-written k w i v = pairs (passed k w i) ++ drop (length (passed k w i) * pairWords) v
-
--- a pair of words stored behind a front p that stands in place of the first m words
-two-stored : (p v : List ℕ) (m a z : ℕ) → length p ≡ m → m + 2 ≤ length v
-    → set (set (p ++ drop m v) m a) (m + 1) z ≡ (p ++ (a ∷ z ∷ [])) ++ drop (m + 2) v
-two-stored p v m a z e fits =
-    let l : List ℕ = p ++ drop m v in
-    let room : m + 2 ≤ length l = simp (length-append, length-drop) (omega arith) in
-    let back : drop (m + 2) l ≡ drop (m + 2) v =
-    sym (drop-drop 2 m l) ∙ ap (λ (r : List ℕ). drop 2 r) (drop-at p (drop m v) m e) ∙ drop-drop 2 m v in
-    rw add-one (rw (back, take-at p (drop m v) m e) at (sets-eq (a ∷ z ∷ []) l m room))
-
--- where the loop that writes has come
-pub record Writing (k : Class) (w : List ℕ) (i : ℕ) (v out : List ℕ) (at : ℕ) : Type 0 where
-  pub kept : length out ≡ length v
-  pub behind : at ≡ length (passed k w i) * pairWords
-  pub words : out ≡ written k w i v
-
-pub writing-none : (k : Class) (w v : List ℕ) → Writing k w 0 v v 0
-unfolding sections entries pairs
-writing-none k w v = record { kept = refl; behind = refl; words = refl }
-
-module _ (k : Class) (w : List ℕ) (i : ℕ) (x : Piece) (is : x ≡ entryAt w i) (v t : List ℕ) (at : ℕ) (g : Writing k w i v t at) where
-  -- a section has room for its pair, where there is room for all
-  pub writing-room : freeOf k (x .status) ≡ true → (n : ℕ) → i < n
-      → length (passed k w n) * pairWords ≤ length v → at + pairWords ≤ length v
-  writing-room h n lt all = omega (arith, section-among k w n i x is h lt, g .behind)
-
-  written-section : freeOf k (x .status) ≡ true → at + pairWords ≤ length v
-      → set (set t at (x .address)) (at + 1) (x .size) ≡ written k w (i + 1) v
-  unfolding pairs
-  written-section h room =
-      let p : List ℕ = pairs (passed k w i) in
-      let m : length (passed k w (i + 1)) * pairWords ≡ at + 2 = omega (arith, count-section k w i x is h, g .behind) in
-      let front : pairs (passed k w (i + 1)) ≡ p ++ (x .address ∷ x .size ∷ []) =
-      ap pairs (passed-section k w i x is h) ∙ pairs-append (passed k w i) (x ∷ []) in
-      let now : t ≡ p ++ drop at v = rw (g .behind) (g .words) in
-      rw (now, m, front) (two-stored p v at (x .address) (x .size) (rw (g .behind) (length-pairs (passed k w i))) room)
-
-  pub writing-section : freeOf k (x .status) ≡ true → at + pairWords ≤ length v → (out : List ℕ)
-      → out ≡ set (set t at (x .address)) (at + 1) (x .size) → (b : ℕ) → b ≡ at + pairWords → Writing k w (i + 1) v out b
-  writing-section h room out e b f =
-      record {
-        kept = ap length e ∙ simp length-set (g .kept);
-        behind = omega (arith, g .behind, count-section k w i x is h);
-        words = e ∙ written-section h room;
-      }
-
-  pub writing-other : freeOf k (x .status) ≡ false → (out : List ℕ) → out ≡ t → (b : ℕ) → b ≡ at → Writing k w (i + 1) v out b
-  writing-other h out e b f =
-      record {
-        kept = ap length e ∙ g .kept;
-        behind = omega (arith, g .behind, count-other k w i x is h);
-        words = e ∙ g .words ∙ ap (λ (xs : List Piece). pairs xs ++ drop (length xs * pairWords) v) (sym (passed-other k w i x is h));
-      }
-
--- ---- the whole call
-
-pub entries-fit : (sp : Space) (w : List ℕ) → soundb sp w ≡ true → sp .count * entryWords ≤ length w
-entries-fit sp w e = count-fits (local-form (sp .page) (sp .limit) (sp .end) (sp .count) w .1 e .ranges)
+listed-said : (sp : Space) (v : List ℕ) (xs : List Piece) (r : Listing) (u : List ℕ) → _≡_ {A = Left} (record { answer = r; words = u }) (listedIn v xs)
+    → listOutcomeOf sp r u ≡ listedAs sp v xs
+unfolding listedIn listedAs
+listed-said sp v xs r u e =
+    split (length xs * pairWords) (length v)
+    (λ l.
+    let t = le-ltb (length v) (length xs * pairWords) l in
+    let q = rw t at e in
+    (λ i. listOutcomeOf sp (q i .answer) (q i .words)) ∙ sym (refusing-no uncounted sp v _ sliceTooShort _ t))
+    (λ l.
+    let t = lt-ltb (length v) (length xs * pairWords) l in
+    let q = rw t at e in
+    (λ i. listOutcomeOf sp (q i .answer) (q i .words)) ∙ sym (refusing-yes uncounted sp v _ sliceTooShort _ t))
 
 module _ (sp : Space) (m : ℕ) (w v : List ℕ) where
-  pub listed-unsound : soundb sp w ≡ false → listed sp m w v ≡ record { refusal = notSound; count = 0; state = sp; words = v }
-  unfolding listed refusingList
-  listed-unsound e = rw e
+  pub listed-unsound : soundb sp w ≡ false → listed sp m w v ≡ uncounted (refused notSound sp v)
+  unfolding listed
+  listed-unsound e = refusing-yes uncounted sp v _ notSound _ (ap not e)
 
-  pub listed-unknown : soundb sp w ≡ true → managerb m ≡ false
-      → listed sp m w v ≡ record { refusal = unknownCode; count = 0; state = sp; words = v }
-  unfolding listed refusingList
-  listed-unknown e1 e2 = rw (e1, e2)
+  module _ (sound : SoundSpace sp w) where
+    checked : not (soundb sp w) ≡ false
+    checked = ap not (sound-true sp w sound)
 
-  module _ (k : Class) (n : ℕ) where
-    pub listed-short : soundb sp w ≡ true → managerb m ≡ true → k ≡ classOfManager m → n ≡ length (passed k w (sp .count))
-        → length v < n * pairWords → listed sp m w v ≡ record { refusal = sliceTooShort; count = 0; state = sp; words = v }
-    unfolding listed refusingList listedAs
-    listed-short e1 e2 is counts h = rw (e1, e2, ← is, ← counts, lt-ltb (length v) (n * pairWords) h)
+    pub listed-unknown : managerb m ≡ false → listed sp m w v ≡ uncounted (refused unknownCode sp v)
+    unfolding listed
+    listed-unknown e = refusing-no uncounted sp v _ notSound _ checked ∙ refusing-yes uncounted sp v _ unknownCode _ (ap not e)
 
-    pub listed-all : soundb sp w ≡ true → managerb m ≡ true → k ≡ classOfManager m → n ≡ length (passed k w (sp .count))
-        → n * pairWords ≤ length v → (t : List ℕ) → t ≡ written k w (sp .count) v
-        → listed sp m w v ≡ record { refusal = 0; count = n; state = sp; words = t }
-    unfolding listed refusingList listedAs
-    listed-all e1 e2 is counts h t words = rw (e1, e2, ← is, ← words, ← counts, le-ltb (length v) (n * pairWords) h)
+    -- what `sections` answered, with the class of the manager
+    pub listed-answered : managerb m ≡ true → {k : Class} → k ≡ classOfManager m → {r s : Listing} {u : List ℕ} → r ≡ s
+        → _≡_ {A = Left} (record { answer = r; words = u }) (listedIn v (sections k (entriesOf sp w)))
+        → listOutcomeOf sp s u ≡ listed sp m w v
+    unfolding listed
+    listed-answered e {k} is {r} {s} {u} q h =
+        ap (λ (x : Listing). listOutcomeOf sp x u) (sym q)
+        ∙ (listed-said sp v (sections k (entriesOf sp w)) r u h
+        ∙ (ap (λ (c : Class). listedAs sp v (sections c (entriesOf sp w))) is
+        ∙ sym (refusing-no uncounted sp v _ notSound _ checked ∙ refusing-no uncounted sp v _ unknownCode _ (ap not e))))

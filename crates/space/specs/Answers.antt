@@ -2,14 +2,16 @@
 --
 --   outOfRange .. sliceTooShort     the numbered refusals that calls on a space can give; success is 0
 --   noAddress                       the address answer of a refused call
---   openNumber, allocateNumber, ..  the number of each case of each call's answer
+--   openNumber, allocateNumber, ..  the number of each case of each call's answer; notFoundNumber of each reason why no piece is named
 --   addressOf, countOf              the address answer, the count answer, of each case
 --
---   soundb sp w             state and table are sound together, as `table` tests it
+--   SoundSpace sp w         state and table are sound together
+--   soundb sp w             the test of it, as `table` makes it
 --   entriesOf sp w          the entries of the table
+--   livesOf sp w            its live pieces
 --   Outcome                 what a call leaves: its refusal number (0 if accepted), the state, and every word of the lent table
 --   refused k sp w          refused with k: the state and every word as they came
---   refusing sp w t k o     refused with k if t holds, and else o
+--   refusing form sp w t k o  refused with k if t holds, and else o; `form` says how an outcome stands in what the call leaves, `plain` as it is
 --   settled sp w ps         the table and the end that the live pieces ps determine; 6, if the table has too little room for them
 --
 -- Assumes nothing.
@@ -20,18 +22,20 @@ use lib.Dec.{ltb}
 use lib.ListN.{length}
 use Rattle.pieces.specs.declared.Piece.{Piece}
 use Rattle.pieces.specs.Words.{entries, table}
-use Rattle.table.specs.Fill.{fill, endOf}
-use Rattle.table.specs.Sound.{capacity}
+use Rattle.table.specs.Fill.{lives, fill, endOf}
+use Rattle.table.specs.Sound.{capacity, Sound}
 use Rattle.table.specs.Local.{localb}
 use Rattle.space.specs.declared.Space.{Space}
 use Rattle.space.specs.declared.answers.OpenAnswer.{OpenAnswer}
 use Rattle.space.specs.declared.answers.AllocateAnswer.{AllocateAnswer}
+use Rattle.space.specs.declared.answers.NotFound.{NotFound}
 use Rattle.space.specs.declared.answers.ReleaseAnswer.{ReleaseAnswer}
 use Rattle.space.specs.declared.answers.ExtendAnswer.{ExtendAnswer}
 use Rattle.space.specs.declared.answers.ShortenAnswer.{ShortenAnswer}
 use Rattle.space.specs.declared.answers.ListAnswer.{ListAnswer}
 use Rattle.space.specs.declared.answers.OpenAnswer.the-variants as opening
 use Rattle.space.specs.declared.answers.AllocateAnswer.the-variants as allocating
+use Rattle.space.specs.declared.answers.NotFound.the-variants as missing
 use Rattle.space.specs.declared.answers.ReleaseAnswer.the-variants as releasing
 use Rattle.space.specs.declared.answers.ExtendAnswer.the-variants as extending
 use Rattle.space.specs.declared.answers.ShortenAnswer.the-variants as shortening
@@ -94,17 +98,20 @@ addressOf allocating.NoBytes = noAddress
 addressOf allocating.BeyondLimit = noAddress
 addressOf allocating.TableFull = noAddress
 
+abbrev pub notFoundNumber : NotFound → ℕ
+notFoundNumber missing.NotLive = notLive
+
 abbrev pub releaseNumber : ReleaseAnswer → ℕ
 releaseNumber releasing.Done = 0
 releaseNumber releasing.NotSound = notSound
-releaseNumber releasing.NotLive = notLive
+releaseNumber (releasing.NotFound why) = notFoundNumber why
 releaseNumber releasing.TableFull = tableFull
 
 abbrev pub extendNumber : ExtendAnswer → ℕ
 extendNumber extending.Done = 0
 extendNumber extending.NotSound = notSound
 extendNumber extending.NoBytes = zeroAsked
-extendNumber extending.NotLive = notLive
+extendNumber (extending.NotFound why) = notFoundNumber why
 extendNumber extending.NoRoomBehind = noRoomBehind
 extendNumber extending.BeyondLimit = beyondLimit
 extendNumber extending.TableFull = tableFull
@@ -113,7 +120,7 @@ abbrev pub shortenNumber : ShortenAnswer → ℕ
 shortenNumber shortening.Done = 0
 shortenNumber shortening.NotSound = notSound
 shortenNumber shortening.NoBytes = zeroAsked
-shortenNumber shortening.NotLive = notLive
+shortenNumber (shortening.NotFound why) = notFoundNumber why
 shortenNumber shortening.TooLittleLeft = tooLittleLeft
 shortenNumber shortening.TableFull = tableFull
 
@@ -131,11 +138,17 @@ countOf listing.SliceTooShort = 0
 
 -- ---- state and words
 
+abbrev pub SoundSpace : Space → List ℕ → Type 0
+SoundSpace sp w = Sound (sp .page) (sp .limit) (sp .end) (sp .count) w
+
 abbrev pub soundb : Space → List ℕ → Bool
 soundb sp w = localb (sp .page) (sp .limit) (sp .end) (sp .count) w
 
 abbrev pub entriesOf : Space → List ℕ → List Piece
 entriesOf sp w = entries w 0 (sp .count)
+
+abbrev pub livesOf : Space → List ℕ → List Piece
+livesOf sp w = lives (entriesOf sp w)
 
 pub record Outcome : Type 0 where
   pub refusal : ℕ
@@ -145,8 +158,11 @@ pub record Outcome : Type 0 where
 abbrev pub refused : ℕ → Space → List ℕ → Outcome
 refused k sp w = record { refusal = k; state = sp; words = w }
 
-unfoldable pub refusing : Space → List ℕ → Bool → ℕ → Outcome → Outcome
-refusing sp w t k o = cond t (refused k sp w) o
+unfoldable pub refusing : {A : Type 0} → (Outcome → A) → Space → List ℕ → Bool → ℕ → A → A
+refusing form sp w t k o = cond t (form (refused k sp w)) o
+
+abbrev pub plain : Outcome → Outcome
+plain o = o
 
 abbrev pub stateOf : Space → List Piece → Space
 stateOf sp ps =
@@ -154,5 +170,5 @@ stateOf sp ps =
 
 unfoldable pub settled : Space → List ℕ → List Piece → Outcome
 settled sp w ps =
-    refusing sp w (ltb (capacity (length w)) (length (fill (sp .page) ps))) tableFull
+    refusing plain sp w (ltb (capacity (length w)) (length (fill (sp .page) ps))) tableFull
     (record { refusal = 0; state = stateOf sp ps; words = table (length w) (fill (sp .page) ps) })

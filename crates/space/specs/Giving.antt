@@ -1,98 +1,90 @@
 -- Giving back, lengthening, shortening. Each names a live piece by its exact address and size.
 --
+--   nameOf a z                   a piece by its address and size
+--   resizedIn sp w x z           the live pieces of a table with x, one of them, z bytes long
+--   namedIn sp w a z             the live entry of this address and size, or why there is none
+--   naming sp w zero a z found   the front of the three calls: 2, state and table are not sound; 4, if the call has that refusal and `zero` holds;
+--                                the refusal of a piece that is not named; and else what `found` gives of its entry
 --   released sp a z w            a release
 --   extended sp a z m w          an extend by m
---   roomBehindb P k e z m es     a piece of class k and z bytes that ends at e, with the entries es behind it, has room for m bytes more
---   growsBeyondb sp e m es       a piece ends at the file's end e, and the fewest whole pages that hold m there would pass the limit
 --   shortened sp a z k w         a shorten by k
---   remainsb P c z k             enough remains of a piece of class c and z bytes without k
 --
--- Assumes nothing.
-use mathlib.Core.Bool.{Bool, true, false, not, _&&_, _||_}
-use mathlib.Core.List.{List, [], _∷_}
+-- The room behind a piece and what remains of it are in room/specs/Room.antt. Assumes nothing.
+use mathlib.Core.Bool.{Bool, false, not, _||_}
+use mathlib.Core.List.{List}
 use Prim.Native.Nat.{ℕ, _+_, _-_}
-use lib.Dec.{leb, ltb, eqb}
-use Rattle.pages.specs.Pages.{borderb, up}
-use Rattle.pieces.specs.declared.Class.{Class}
-use Rattle.pieces.specs.declared.Class.the-variants.{SmallMetadata, SmallRaw, Large}
-use Rattle.pieces.specs.declared.Piece.{Piece}
-use Rattle.pieces.specs.Pieces.{classOf, freeb, largeFreeb}
-use Rattle.pieces.specs.Words.{entries}
-use Rattle.table.specs.Fill.{lives}
-use Rattle.table.specs.Local.{noneb}
+use lib.Dec.{eqb}
 use Rattle.find.specs.Find.{findLive}
 use Rattle.find.specs.declared.Found.{Found}
-use Rattle.find.specs.declared.Found.the-variants.{At, Missing}
+use Rattle.find.specs.declared.Found.the-variants as finding
+use Rattle.pieces.specs.Pieces.{classOf}
+use Rattle.pieces.specs.Words.{entries}
+use Rattle.pieces.specs.declared.Piece.{Piece}
+use Rattle.room.specs.Room.{roomBehindb, growsBeyondb, remainsb}
 use Rattle.rules.specs.Editing.{Name, remove, resize}
+use Rattle.space.specs.Answers.{notSound, zeroAsked, noRoomBehind, beyondLimit, tooLittleLeft, notFoundNumber}
+use Rattle.space.specs.Answers.{soundb, entriesOf, livesOf, Outcome, refused, refusing, plain, settled}
 use Rattle.space.specs.declared.Space.{Space}
-use Rattle.space.specs.Answers.{notSound, zeroAsked, notLive, noRoomBehind, beyondLimit, tooLittleLeft, soundb, entriesOf, Outcome, refused, refusing, settled}
+use Rattle.space.specs.declared.answers.NotFound.the-variants.{NotLive}
+use Rattle.space.specs.declared.give.Named.{Named}
+use Rattle.space.specs.declared.give.Named.the-variants.{At, Not}
 
 abbrev pub nameOf : ℕ → ℕ → Name
 nameOf a z = record { address = a; size = z }
+
+-- the live pieces of a table with x, one of them, z bytes long
+abbrev pub resizedIn : Space → List ℕ → Piece → ℕ → List Piece
+resizedIn sp w x z = resize (nameOf (x .address) (x .size)) z (livesOf sp w)
+
+-- ---- the front
+
+abbrev pub namedAs : Found → Named
+namedAs (finding.At i x) = At i x
+namedAs finding.Missing = Not NotLive
+
+abbrev pub namedIn : Space → List ℕ → ℕ → ℕ → Named
+namedIn sp w a z = namedAs (findLive a z 0 (entriesOf sp w))
+
+unfoldable pub whenNamed : Space → List ℕ → (ℕ → Piece → Outcome) → Named → Outcome
+whenNamed sp w found (At i x) = found i x
+whenNamed sp w found (Not why) = refused (notFoundNumber why) sp w
+
+unfoldable pub naming : Space → List ℕ → Bool → ℕ → ℕ → (ℕ → Piece → Outcome) → Outcome
+naming sp w zero a z found =
+    refusing plain sp w (not (soundb sp w)) notSound
+    (refusing plain sp w zero zeroAsked
+    (whenNamed sp w found (namedIn sp w a z)))
+
+-- ---- release
+
+-- of the piece x, which is entry i
+unfoldable pub releasedAt : Space → ℕ → ℕ → List ℕ → ℕ → Piece → Outcome
+releasedAt sp a z w i x = settled sp w (remove (nameOf a z) (livesOf sp w))
+
+unfoldable pub released : Space → ℕ → ℕ → List ℕ → Outcome
+released sp a z w = naming sp w false a z (releasedAt sp a z w)
+
+-- ---- extend
 
 -- the entries behind entry i
 abbrev pub entriesBehind : Space → List ℕ → ℕ → List Piece
 entriesBehind sp w i = entries w (i + 1) (sp .count - (i + 1))
 
--- ---- release
-
-unfoldable pub releasedAt : Space → ℕ → ℕ → List ℕ → Found → Outcome
-releasedAt sp a z w Missing = refused notLive sp w
-releasedAt sp a z w (At i x) = settled sp w (remove (nameOf a z) (lives (entriesOf sp w)))
-
-unfoldable pub released : Space → ℕ → ℕ → List ℕ → Outcome
-released sp a z w =
-    refusing sp w (not (soundb sp w)) notSound (releasedAt sp a z w (findLive a z 0 (entriesOf sp w)))
-
--- ---- extend
-
--- a free entry directly behind it in the page with at least m bytes, and the new size stays below P
-unfoldable pub smallRoomb : ℕ → ℕ → ℕ → ℕ → List Piece → Bool
-smallRoomb P e z m [] = false
-smallRoomb P e z m (y ∷ es) = not (borderb P e) && ((freeb (y .status) && leb m (y .size)) && ltb (z + m) P)
-
--- an entry behind it is kind 6 with at least m bytes; at the file's end there is none
-unfoldable pub largeRoomb : ℕ → List Piece → Bool
-largeRoomb m [] = true
-largeRoomb m (y ∷ es) = largeFreeb (y .status) && leb m (y .size)
-
-unfoldable pub roomBehindb : ℕ → Class → ℕ → ℕ → ℕ → List Piece → Bool
-roomBehindb P SmallMetadata e z m es = smallRoomb P e z m es
-roomBehindb P SmallRaw e z m es = smallRoomb P e z m es
-roomBehindb P Large e z m es = largeRoomb m es
-
-unfoldable pub growsBeyondb : Space → ℕ → ℕ → List Piece → Bool
-growsBeyondb sp e m es = noneb es && ltb (sp .limit) (up (sp .page) (e + m))
-
-unfoldable pub extendedAt : Space → ℕ → ℕ → ℕ → List ℕ → Found → Outcome
-extendedAt sp a z m w Missing = refused notLive sp w
-extendedAt sp a z m w (At i x) =
-    refusing sp w (not (roomBehindb (sp .page) (classOf (x .status)) (a + z) z m (entriesBehind sp w i))) noRoomBehind
-    (refusing sp w (growsBeyondb sp (a + z) m (entriesBehind sp w i)) beyondLimit
-    (settled sp w (resize (nameOf a z) (z + m) (lives (entriesOf sp w)))))
+unfoldable pub extendedAt : Space → ℕ → ℕ → ℕ → List ℕ → ℕ → Piece → Outcome
+extendedAt sp a z m w i x =
+    refusing plain sp w (not (roomBehindb (sp .page) (classOf (x .status)) (a + z) z m (entriesBehind sp w i))) noRoomBehind
+    (refusing plain sp w (growsBeyondb (sp .page) (sp .limit) (a + z) m (entriesBehind sp w i)) beyondLimit
+    (settled sp w (resize (nameOf a z) (z + m) (livesOf sp w))))
 
 unfoldable pub extended : Space → ℕ → ℕ → ℕ → List ℕ → Outcome
-extended sp a z m w =
-    refusing sp w (not (soundb sp w)) notSound
-    (refusing sp w (eqb z 0 || eqb m 0) zeroAsked
-    (extendedAt sp a z m w (findLive a z 0 (entriesOf sp w))))
+extended sp a z m w = naming sp w (eqb z 0 || eqb m 0) a z (extendedAt sp a z m w)
 
 -- ---- shorten
 
--- at least 1 byte must remain of a small piece, at least P of a large one
-unfoldable pub remainsb : ℕ → Class → ℕ → ℕ → Bool
-remainsb P SmallMetadata z k = ltb k z
-remainsb P SmallRaw z k = ltb k z
-remainsb P Large z k = leb (P + k) z
-
-unfoldable pub shortenedAt : Space → ℕ → ℕ → ℕ → List ℕ → Found → Outcome
-shortenedAt sp a z k w Missing = refused notLive sp w
-shortenedAt sp a z k w (At i x) =
-    refusing sp w (not (remainsb (sp .page) (classOf (x .status)) z k)) tooLittleLeft
-    (settled sp w (resize (nameOf a z) (z - k) (lives (entriesOf sp w))))
+unfoldable pub shortenedAt : Space → ℕ → ℕ → ℕ → List ℕ → ℕ → Piece → Outcome
+shortenedAt sp a z k w i x =
+    refusing plain sp w (not (remainsb (sp .page) (classOf (x .status)) z k)) tooLittleLeft
+    (settled sp w (resize (nameOf a z) (z - k) (livesOf sp w)))
 
 unfoldable pub shortened : Space → ℕ → ℕ → ℕ → List ℕ → Outcome
-shortened sp a z k w =
-    refusing sp w (not (soundb sp w)) notSound
-    (refusing sp w (eqb z 0 || eqb k 0) zeroAsked
-    (shortenedAt sp a z k w (findLive a z 0 (entriesOf sp w))))
+shortened sp a z k w = naming sp w (eqb z 0 || eqb k 0) a z (shortenedAt sp a z k w)

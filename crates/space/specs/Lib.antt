@@ -5,4 +5,4 @@ pub mod Placing
 pub mod Giving
 pub mod Listing
 pub mod Said
-pub mod Settle
+pub mod Halves

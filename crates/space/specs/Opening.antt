@@ -1,19 +1,16 @@
 -- Opening: P, M and the lent table. The table's old words are not looked at.
 --
---   openingb P M len      P, M and the table's length lie in their ranges
 --   nowhere               four zeros, the state of a refused opening
---   opened P M w          what an opening leaves
+--   opened P M w          what an opening leaves. P, M and the table's length lie in the ranges of a sound state with E and n 0
 --   defaultPage, defaultLimit   the default opening
 --
 -- Assumes nothing.
-use mathlib.Core.Bool.{Bool, cond, _&&_}
+use mathlib.Core.Bool.{cond}
 use mathlib.Core.List.{List}
 use Prim.Native.Nat.{ℕ}
-use lib.Dec.{leb}
 use lib.ListN.{length, replicate}
-use Rattle.pages.specs.Pages.{pageSizeb}
 use Rattle.table.specs.Sound.{largestLimit}
-use Rattle.table.specs.Local.{tableLengthb}
+use Rattle.table.specs.Local.{rangesb}
 use Rattle.space.specs.declared.Space.{Space}
 use Rattle.space.specs.Answers.{outOfRange, Outcome}
 
@@ -23,14 +20,11 @@ defaultPage = 4096
 abbrev pub defaultLimit : ℕ
 defaultLimit = largestLimit
 
-unfoldable pub openingb : ℕ → ℕ → ℕ → Bool
-openingb P M len = pageSizeb P && (leb P M && (leb M largestLimit && tableLengthb len))
-
 abbrev pub nowhere : Space
 nowhere = record { page = 0; limit = 0; end = 0; count = 0 }
 
 unfoldable pub opened : ℕ → ℕ → List ℕ → Outcome
 opened P M w =
-    cond (openingb P M (length w))
+    cond (rangesb P M 0 0 (length w))
     (record { refusal = 0; state = record { page = P; limit = M; end = 0; count = 0 }; words = replicate (length w) 0 })
     (record { refusal = outOfRange; state = nowhere; words = w })

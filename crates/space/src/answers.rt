@@ -1,6 +1,7 @@
 // What the calls answer: one case for each refusal that a call can give, and document 01's number for each case.
 ghost use mathlib.Core.Path.{_≡_};
-ghost use Rattle.space.specs.Answers.{openNumber, allocateNumber, addressOf, releaseNumber, extendNumber, shortenNumber, listNumber, countOf};
+ghost use Rattle.space.specs.Answers.{openNumber, allocateNumber, addressOf, listNumber, countOf};
+ghost use Rattle.space.specs.Answers.{notFoundNumber, releaseNumber, extendNumber, shortenNumber};
 use crate::Space;
 
 pub enum OpenAnswer {
@@ -17,10 +18,15 @@ pub enum AllocateAnswer {
     TableFull,
 }
 
+// Why a call that names a piece by address and size finds none. A request that tells more reasons apart adds its cases here.
+pub enum NotFound {
+    NotLive,
+}
+
 pub enum ReleaseAnswer {
     Done,
     NotSound,
-    NotLive,
+    NotFound(NotFound),
     TableFull,
 }
 
@@ -28,7 +34,7 @@ pub enum ExtendAnswer {
     Done,
     NotSound,
     NoBytes,
-    NotLive,
+    NotFound(NotFound),
     NoRoomBehind,
     BeyondLimit,
     TableFull,
@@ -38,7 +44,7 @@ pub enum ShortenAnswer {
     Done,
     NotSound,
     NoBytes,
-    NotLive,
+    NotFound(NotFound),
     TooLittleLeft,
     TableFull,
 }
@@ -142,13 +148,21 @@ pub fn address_of(answer: AllocateAnswer) -> u64
     }
 }
 
+pub fn not_found_number(why: NotFound) -> u64
+    ensures { λ r. ⌜ r ≡ notFoundNumber why ⌝ }
+{
+    match why {
+        NotFound::NotLive => NOT_LIVE,
+    }
+}
+
 pub fn release_number(answer: ReleaseAnswer) -> u64
     ensures { λ r. ⌜ r ≡ releaseNumber answer ⌝ }
 {
     match answer {
         ReleaseAnswer::Done => DONE,
         ReleaseAnswer::NotSound => NOT_SOUND,
-        ReleaseAnswer::NotLive => NOT_LIVE,
+        ReleaseAnswer::NotFound(why) => not_found_number(why),
         ReleaseAnswer::TableFull => TABLE_FULL,
     }
 }
@@ -160,7 +174,7 @@ pub fn extend_number(answer: ExtendAnswer) -> u64
         ExtendAnswer::Done => DONE,
         ExtendAnswer::NotSound => NOT_SOUND,
         ExtendAnswer::NoBytes => ZERO_ASKED,
-        ExtendAnswer::NotLive => NOT_LIVE,
+        ExtendAnswer::NotFound(why) => not_found_number(why),
         ExtendAnswer::NoRoomBehind => NO_ROOM_BEHIND,
         ExtendAnswer::BeyondLimit => BEYOND_LIMIT,
         ExtendAnswer::TableFull => TABLE_FULL,
@@ -174,7 +188,7 @@ pub fn shorten_number(answer: ShortenAnswer) -> u64
         ShortenAnswer::Done => DONE,
         ShortenAnswer::NotSound => NOT_SOUND,
         ShortenAnswer::NoBytes => ZERO_ASKED,
-        ShortenAnswer::NotLive => NOT_LIVE,
+        ShortenAnswer::NotFound(why) => not_found_number(why),
         ShortenAnswer::TooLittleLeft => TOO_LITTLE_LEFT,
         ShortenAnswer::TableFull => TABLE_FULL,
     }

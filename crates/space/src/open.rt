@@ -1,7 +1,7 @@
-// Opening a space over a lent table.
+// Opening a space over a lent table: P, M and the table's length lie in the ranges of a sound state with E and n 0.
 ghost use mathlib.Core.Path.{_≡_};
 ghost use lib.ListN.{length, replicate};
-ghost use Rattle.space.specs.Opening.{openingb, opened, defaultPage, defaultLimit};
+ghost use Rattle.space.specs.Opening.{opened, defaultPage, defaultLimit};
 ghost use Rattle.space.specs.Said.{openSaid};
 use crate::Space;
 use crate::answers::OpenAnswer;
@@ -10,22 +10,6 @@ use crate::answers::Opened;
 const DEFAULT_PAGE: u64 = 4096;
 
 const DEFAULT_LIMIT: u64 = sound::LARGEST_LIMIT;
-
-// Whether P, M and the table's length lie in their ranges.
-fn may_open(page: u64, limit: u64, len: usize) -> bool
-    ensures { λ r. ⌜ r ≡ openingb page limit len ⌝ }
-{
-    if !pages::is_page_size(page) {
-        return false;
-    }
-    if limit < page {
-        return false;
-    }
-    if sound::LARGEST_LIMIT < limit {
-        return false;
-    }
-    sound::is_table_length(len)
-}
 
 // Every word becomes 0.
 fn clear(table: &mut [u64])
@@ -40,7 +24,7 @@ impl Space {
     pub fn open(page: u64, limit: u64, table: &mut [u64]) -> Opened
         ensures { λ r. ⌜ openSaid r (now (table .exit)) ≡ opened page limit (now (table .entry)) ⌝ }
     {
-        if !may_open(page, limit, table.len()) {
+        if !sound::in_ranges(page, limit, 0, 0, table.len()) {
             return Opened {
                 space: Space {
                     page: 0,

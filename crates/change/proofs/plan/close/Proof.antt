@@ -5,6 +5,12 @@ use Rattle.change.proofs.PlanLaws.{closing-next, closing-none}
 use Rattle.change.proofs.plan.close.Statement.{statement}
 use Rattle.change.proofs.plan.close.Tie as tie
 
+with-tail-requires : tie.Need-with-tail-requires
+with-tail-requires c κs = search needs
+
+returns : tie.Need-returns
+returns c = rw (closing-none _ _ _ _ _ _ (c .before .if1 .taken)) (c .with-tail .ensures)
+
 piece-at-requires : tie.Need-piece-at-requires
 piece-at-requires c κs = search needs
 
@@ -14,25 +20,19 @@ class-of-requires c κs = search needs
 with-gap-requires : tie.Need-with-gap-requires
 with-gap-requires c κs = search needs
 
-returns : tie.Need-returns
-returns c =
-    let among = c .before .before .before .if1 .taken in
+returns-2 : tie.Need-returns-2
+returns-2 c =
+    let among = c .before .before .before .if1 .left in
     let read = c .before .before .piece-at .ensures in
     rw (closing-next _ _ _ _ _ _ _ among read, ← c .before .class-of .ensures) (c .with-gap .ensures)
-
-with-tail-requires : tie.Need-with-tail-requires
-with-tail-requires c κs = search needs
-
-returns-2 : tie.Need-returns-2
-returns-2 c = rw (closing-none _ _ _ _ _ _ (c .before .if1 .left)) (c .with-tail .ensures)
 
 pub close-spec : {M : Type 1} → statement M
 close-spec =
     tie.close
     (tie.spec
+    with-tail-requires
+    returns
     piece-at-requires
     class-of-requires
     with-gap-requires
-    returns
-    with-tail-requires
     returns-2)

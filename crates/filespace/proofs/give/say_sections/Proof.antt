@@ -2,7 +2,7 @@
 -- Assumes nothing.
 use Prim.Native.Nat.{_*_, _≤_, _-_}
 use borrow.Author.Needs.{needs}
-use Rattle.space.specs.Listing.{pairWords}
+use Rattle.sections.specs.Sections.{pairWords}
 use Rattle.filespace.specs.Lent.{mostRoom}
 use Rattle.filespace.proofs.give.say_sections.Statement.{statement}
 use Rattle.filespace.proofs.give.say_sections.Tie as tie

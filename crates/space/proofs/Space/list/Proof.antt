@@ -1,10 +1,10 @@
--- `space::Space::list` meets its contract: each refusal is the law of the first test that fails, and a sound table makes both walks safe.
+-- `space::Space::list` meets its contract: refusal 2 is the law of a table that is not sound; of a sound one the half decides.
 -- Assumes nothing.
 use mathlib.Core.Path.{sym}
-use native.Mathlib.Omega.{arith}
 use borrow.Author.Needs.{needs}
-use Rattle.pages.proofs.Numbers.{passes, fails}
-use Rattle.space.proofs.ListLaws.{passed-few, entries-fit, listed-unsound, listed-unknown, listed-short, listed-all}
+use Rattle.pages.proofs.Numbers.{fails}
+use Rattle.space.proofs.AnswerLaws.{tested}
+use Rattle.space.proofs.ListLaws.{listed-unsound}
 use Rattle.space.proofs.Space.list.Statement.{statement}
 use Rattle.space.proofs.Space.list.Tie as tie
 
@@ -17,71 +17,17 @@ returns c =
     let unsound = fails (c .before .is-sound .ensures) (c .if1 .taken) in
     sym (listed-unsound (a .self) (a .manager) (a .table .now) (a .out .now) unsound)
 
-is-manager-requires : tie.Need-is-manager-requires
-is-manager-requires c κs = search needs
-
-returns-2 : tie.Need-returns-2
-returns-2 c =
-    let a = c .before .before .before .before .before .before .args in
-    let sound = passes (c .before .before .before .is-sound .ensures) (c .before .before .if1 .left) in
-    let unknown = fails (c .before .is-manager .ensures) (c .if2 .taken) in
-    sym (listed-unknown (a .self) (a .manager) (a .table .now) (a .out .now) sound unknown)
-
-class-of-manager-requires : tie.Need-class-of-manager-requires
-class-of-manager-requires c κs = search needs
-
-count-sections-requires : tie.Need-count-sections-requires
-count-sections-requires c κs =
-    let a = c .before .before .before .before .before .before .before .args in
-    entries-fit (a .self) (a .table .now) (passes (c .before .before .before .before .is-sound .ensures) (c .before .before .before .if1 .left))
-
-mul-if3 : tie.Need-mul-if3
-mul-if3 c =
-    let a = c .before .before .before .before .before .before .before .before .args in
-    let fit = entries-fit (a .self) (a .table .now) (passes (c .before .before .before .before .before .is-sound .ensures) (c .before .before .before .before .if1 .left)) in
-    let few = passed-few (c .before .class-of-manager .result) (a .table .now) (a .self .count) in
-    omega (arith, c .count-sections .ensures)
-
-returns-3 : tie.Need-returns-3
-returns-3 c =
-    let a = c .before .before .before .before .before .before .before .before .before .args in
-    let sound = passes (c .before .before .before .before .before .before .is-sound .ensures) (c .before .before .before .before .before .if1 .left) in
-    let known = passes (c .before .before .before .before .is-manager .ensures) (c .before .before .before .if2 .left) in
-    let class = c .before .before .class-of-manager .ensures in
-    let counted = c .before .count-sections .ensures in
-    sym (listed-short (a .self) (a .manager) (a .table .now) (a .out .now) _ _ sound known class counted (c .if3 .taken))
-
-write-sections-requires : tie.Need-write-sections-requires
-write-sections-requires c κs =
-    let a = c .before .before .before .before .before .before .before .before .before .before .args in
-    let fit = entries-fit (a .self) (a .table .now) (passes (c .before .before .before .before .before .before .before .is-sound .ensures) (c .before .before .before .before .before .before .if1 .left)) in
-    (fit, rw (c .before .before .count-sections .ensures) at (c .before .if3 .left))
+list-sound-requires : tie.Need-list-sound-requires
+list-sound-requires c κs =
+    let a = c .before .before .before .before .before .args in
+    tested (a .self) (a .table .now) (c .before .before .is-sound .ensures) (c .before .if1 .left)
 
 same-length : tie.Need-same-length
 same-length c = search needs
 
-returns-4 : tie.Need-returns-4
-returns-4 c =
-    let a = c .before .before .before .before .before .before .before .before .before .before .before .before .before .args in
-    let sound = passes (c .before .before .before .before .before .before .before .before .before .before .is-sound .ensures) (c .before .before .before .before .before .before .before .before .before .if1 .left) in
-    let known = passes (c .before .before .before .before .before .before .before .before .is-manager .ensures) (c .before .before .before .before .before .before .before .if2 .left) in
-    let class = c .before .before .before .before .before .before .class-of-manager .ensures in
-    let counted = c .before .before .before .before .before .count-sections .ensures in
-    let wrote = c .before .before .write-sections .ensures in
-    sym (listed-all (a .self) (a .manager) (a .table .now) (a .out .now) _ _ sound known class counted (c .before .before .before .before .if3 .left) _ wrote)
+returns-2 : tie.Need-returns-2
+returns-2 c = c .before .before .list-sound .ensures
 
 pub list-spec : {M : Type 1} → statement M
 list-spec =
-    tie.close
-    (tie.spec
-    is-sound-requires
-    returns
-    is-manager-requires
-    returns-2
-    class-of-manager-requires
-    count-sections-requires
-    mul-if3
-    returns-3
-    write-sections-requires
-    same-length
-    returns-4)
+    tie.close (tie.spec is-sound-requires returns list-sound-requires same-length returns-2)

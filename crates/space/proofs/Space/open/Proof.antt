@@ -7,13 +7,13 @@ use Rattle.space.proofs.OpenLaws.{opened-refused, opened-done}
 use Rattle.space.proofs.Space.open.Statement.{statement}
 use Rattle.space.proofs.Space.open.Tie as tie
 
-may-open-requires : tie.Need-may-open-requires
-may-open-requires c κs = search needs
+in-ranges-requires : tie.Need-in-ranges-requires
+in-ranges-requires c κs = search needs
 
 returns : tie.Need-returns
 returns c =
     let a = c .before .before .before .args in
-    let refused = fails (c .before .may-open .ensures) (c .if1 .taken) in
+    let refused = fails (c .before .in-ranges .ensures) (c .if1 .taken) in
     sym (opened-refused (a .page) (a .limit) (a .table .now) refused)
 
 clear-requires : tie.Need-clear-requires
@@ -25,9 +25,9 @@ same-length c = search needs
 returns-2 : tie.Need-returns-2
 returns-2 c =
     let a = c .before .before .before .before .before .before .before .args in
-    let may = passes (c .before .before .before .before .before .may-open .ensures) (c .before .before .before .before .if1 .left) in
+    let may = passes (c .before .before .before .before .before .in-ranges .ensures) (c .before .before .before .before .if1 .left) in
     let zeros = c .before .before .clear .ensures in
     sym (rw (← zeros) at (opened-done (a .page) (a .limit) (a .table .now) may))
 
 pub open-spec : {M : Type 1} → statement M
-open-spec = tie.close (tie.spec may-open-requires returns clear-requires same-length returns-2)
+open-spec = tie.close (tie.spec in-ranges-requires returns clear-requires same-length returns-2)

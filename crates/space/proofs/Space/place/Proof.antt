@@ -1,62 +1,77 @@
--- `space::Space::place` meets its contract: a section and a page lie in a free entry, so that the new piece stands among the live ones there.
+-- `space::Space::place` meets its contract: refusal 5 is the law of a place beyond the limit, and else the table is settled with the piece at its place.
 -- Assumes nothing.
-use mathlib.Core.Path.{refl, sym, ap, _∙_}
+use mathlib.Core.Path.{sym, _∙_}
 use native.Mathlib.Omega.{arith}
 use borrow.Author.Needs.{needs}
-use Rattle.space.proofs.PlaceLaws.{section-in, page-in, place-in-limit, placed-in}
-use Rattle.space.specs.Placing.{placed}
+use Rattle.space.proofs.AnswerLaws.{settled-done, settled-not}
+use Rattle.space.proofs.PlaceLaws.{place-grow, stands-at, place-settle, placed-beyond, placed-settled, placed-done, placed-full}
 use Rattle.space.proofs.Space.place.Statement.{statement}
 use Rattle.space.proofs.Space.place.Tie as tie
 
-enum-known-place : tie.Need-enum-known-place
-enum-known-place c = search needs
+is-beyond-requires : tie.Need-is-beyond-requires
+is-beyond-requires c κs = place-grow _ _ _ _ _ (c .before .pre)
 
-place-in-requires : tie.Need-place-in-requires
-place-in-requires c κs = let h = c .before .before .before .before .before .pre in let f = section-in _ _ _ _ _ h _ _ (c .before .before .place .given .1) in (record { sound = h .sound; high = omega (arith, f .lt) }, place-in-limit _ _ (h .sound) f)
+returns : tie.Need-returns
+returns c = sym (placed-beyond _ _ _ _ _ (c .before .before .before .pre) (sym (c .before .is-beyond .ensures) ∙ c .if1 .taken))
 
-enum-known-place-2 : tie.Need-enum-known-place-2
-enum-known-place-2 c = search needs
+entry-of-requires : tie.Need-entry-of-requires
+entry-of-requires c κs = search needs
 
-place-in-requires-2 : tie.Need-place-in-requires-2
-place-in-requires-2 c κs = let h = c .before .before .before .before .before .pre in let f = page-in _ _ _ _ _ h _ _ (c .before .before .place2 .given .1) in (record { sound = h .sound; high = omega (arith, f .lt) }, place-in-limit _ _ (h .sound) f)
+address-of-requires : tie.Need-address-of-requires
+address-of-requires c κs = search needs
+
+with-requires : tie.Need-with-requires
+with-requires c κs =
+    let h = c .before .before .before .before .before .before .pre in
+    let r = h .sound .ranges in
+    let within = sym (c .before .before .before .before .is-beyond .ensures) ∙ c .before .before .before .if1 .left in
+    let entry = c .before .before .entry-of .ensures in
+    let address = c .before .address-of .ensures in
+    let ends = stands-at _ _ _ _ _ h within entry address .limit in
+    (place-settle _ _ _ _ _ h within entry address, omega (arith, ends, r .limit-largest, r .page .largest))
+
+enum-known-end : tie.Need-enum-known-end
+enum-known-end c = search needs
 
 enum-told : tie.Need-enum-told
 enum-told c = search needs
 
-place-at-end-requires : tie.Need-place-at-end-requires
-place-at-end-requires c κs = rw (c .before .enum-told .given .1) at (c .before .before .before .before .pre)
-
 same-length : tie.Need-same-length
 same-length c = search needs
 
-returns : tie.Need-returns
-returns c = let h = c .before .before .before .before .before .before .before .before .pre in let e = c .before .before .before .before .before .place .given .1 in c .before .before .place-in .ensures ∙ sym (placed-in _ _ _ _ _ h _ _ (rw e refl) (rw e refl) (section-in _ _ _ _ _ h _ _ e))
+returns-2 : tie.Need-returns-2
+returns-2 c =
+    let test = c .before .before .before .before .before .before .before .before .before in
+    let within = sym (test .before .is-beyond .ensures) ∙ test .if1 .left in
+    let entry = c .before .before .before .before .before .before .before .before .entry-of .ensures in
+    let address = c .before .before .before .before .before .before .before .address-of .ensures in
+    let settled = placed-settled _ _ _ _ _ (test .before .before .before .pre) within entry address in
+    placed-done _ (settled-done _ _ _ (c .before .end .given .1) (c .before .before .before .before .before .with .ensures)) ∙ sym settled
 
 same-length-2 : tie.Need-same-length-2
 same-length-2 c = search needs
 
-returns-2 : tie.Need-returns-2
-returns-2 c = let h = c .before .before .before .before .before .before .before .before .pre in let e = c .before .before .before .before .before .place2 .given .1 in c .before .before .place-in2 .ensures ∙ sym (placed-in _ _ _ _ _ h _ _ (rw e refl) (rw e refl) (page-in _ _ _ _ _ h _ _ e))
-
-same-length-3 : tie.Need-same-length-3
-same-length-3 c = search needs
-
 returns-3 : tie.Need-returns-3
-returns-3 c = let a = c .before .before .before .before .before .before .before .args in c .before .before .place-at-end .ensures ∙ ap (placed (a .self) (a .class) (a .size) (a .table .now)) (sym (c .before .before .before .before .enum-told .given .1))
+returns-3 c =
+    let test = c .before .before .before .before .before .before .before .before in
+    let within = sym (test .before .is-beyond .ensures) ∙ test .if1 .left in
+    let entry = c .before .before .before .before .before .before .before .entry-of .ensures in
+    let address = c .before .before .before .before .before .before .address-of .ensures in
+    let settled = placed-settled _ _ _ _ _ (test .before .before .before .pre) within entry address in
+    placed-full _ _ _ (settled-not _ _ _ (c .enum-told .given .1) (c .before .before .before .before .with .ensures)) ∙ sym settled
 
 pub place-spec : {M : Type 1} → statement M
 place-spec =
     tie.close
     (tie.spec
-    enum-known-place
-    place-in-requires
-    enum-known-place-2
-    place-in-requires-2
-    enum-told
-    place-at-end-requires
-    same-length
+    is-beyond-requires
     returns
-    same-length-2
+    entry-of-requires
+    address-of-requires
+    with-requires
+    enum-known-end
+    enum-told
+    same-length
     returns-2
-    same-length-3
+    same-length-2
     returns-3)

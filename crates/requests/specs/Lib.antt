@@ -1,0 +1,2 @@
+-- What a request names.
+pub mod Requests

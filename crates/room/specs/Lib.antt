@@ -1,0 +1,2 @@
+-- The room behind a piece, and what remains of it.
+pub mod Room

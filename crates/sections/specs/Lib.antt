@@ -1,0 +1,2 @@
+-- What a listing writes.
+pub mod Sections

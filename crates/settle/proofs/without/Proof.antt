@@ -1,0 +1,21 @@
+-- `settle::without` meets its contract: the plan is one for the live pieces without those of the entries.
+-- Assumes nothing.
+use borrow.Author.Needs.{needs}
+use Rattle.settle.proofs.SettleLaws.{plan-fits}
+use Rattle.settle.proofs.without.Statement.{statement}
+use Rattle.settle.proofs.without.Tie as tie
+
+without-requires : tie.Need-without-requires
+without-requires c κs = plan-fits (c .before .before .pre)
+
+carry-out-requires : tie.Need-carry-out-requires
+carry-out-requires c κs = search needs
+
+same-length : tie.Need-same-length
+same-length c = search needs
+
+returns : tie.Need-returns
+returns c = c .before .before .carry-out .ensures _ _ (c .before .before .before .before .without .ensures)
+
+pub without-spec : {M : Type 1} → statement M
+without-spec = tie.close (tie.spec without-requires carry-out-requires same-length returns)

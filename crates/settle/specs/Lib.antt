@@ -1,0 +1,2 @@
+-- How an accepted change ends.
+pub mod Settle
