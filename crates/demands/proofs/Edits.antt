@@ -6,7 +6,7 @@
 use Prim.Native.Nat.{ℕ, _+_, _-_, _≤_, _<_}
 use mathlib.Core.Bool.{Bool, true, false}
 use mathlib.Core.List.{List, List·Memᴰ}
-use mathlib.Core.Path.{_≡_, refl, sym, ap, _∙_}
+use mathlib.Core.Path.{_≡_, refl, ap, _∙_}
 use native.Mathlib.Omega.{arith}
 use Rattle.accepted.proofs.AcceptedLaws.{naming-accepted}
 use Rattle.accepted.proofs.EditedLaws.{insert-stays, resize-stays, Apart, before, after, insert-apart, NamedOr, is-named, is-apart, resize-apart}

@@ -31,7 +31,6 @@ use Rattle.pieces.specs.declared.Piece.{Piece}
 use Rattle.room.proofs.RoomLaws.{room-next, room-bytes, limit-kept, grows-last, remains-some}
 use Rattle.room.specs.Room.{roomBehindb, growsBeyondb, GrowFits, remainsb}
 use Rattle.rules.proofs.SpliceLaws.{remove-at, resize-at}
-use Rattle.rules.specs.Between.{livesWith}
 use Rattle.rules.specs.Editing.{names, remove, resize}
 use Rattle.settle.specs.Settle.{SettleFits}
 use Rattle.space.proofs.AnswerLaws.{refusing-yes, refusing-no, sound-true}
@@ -43,7 +42,6 @@ use Rattle.space.specs.Halves.{FoundIn, livesAround}
 use Rattle.space.specs.declared.Space.{Space}
 use Rattle.space.specs.declared.answers.NotFound.{NotFound}
 use Rattle.space.specs.declared.give.Named.the-variants.{At, Not}
-use Rattle.space.specs.declared.give.Named.{Named}
 use Rattle.table.proofs.LivesLaws.{lives-append, lives-live}
 use Rattle.table.proofs.Theorems.{sound-good}
 use Rattle.table.proofs.TilingLaws.{ends-below, next-above}

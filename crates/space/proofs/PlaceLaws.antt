@@ -13,7 +13,6 @@ use mathlib.Core.Bool.{true, false, not}
 use mathlib.Core.List.{List, [], _∷_}
 use mathlib.Core.Path.{_≡_, refl, sym, ap, _∙_}
 use native.Mathlib.Omega.{arith}
-use lib.Dec.{eqb}
 use borrow.Author.Tests.{eq-eqb, ne-eqb}
 use Rattle.choose.proofs.LiesLaws.{PlaceIn, section-in, page-in}
 use Rattle.choose.specs.Place.{placeFor, atEndb, placeAddress, placeEntry}

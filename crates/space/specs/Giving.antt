@@ -5,6 +5,7 @@
 --   namedIn sp w a z             the live entry of this address and size, or why there is none
 --   naming sp w zero a z found   the front of the three calls: 2, state and table are not sound; 4, if the call has that refusal and `zero` holds;
 --                                the refusal of a piece that is not named; and else what `found` gives of its entry
+--   releasedAt, extendedAt, shortenedAt     what each call does to the piece that was found
 --   released sp a z w            a release
 --   extended sp a z m w          an extend by m
 --   shortened sp a z k w         a shorten by k

@@ -1,6 +1,5 @@
 // Giving back, lengthening, shortening. Each names a live piece by its exact address and size.
 ghost use mathlib.Core.Path.{_≡_};
-ghost use mathlib.Core.List.{[]};
 ghost use Prim.Native.Nat.{_+_, _≤_};
 ghost use Rattle.settle.specs.Settle.{settleSaid, settledTable};
 ghost use Rattle.space.specs.Answers.{SoundSpace};

@@ -1,6 +1,5 @@
 -- `sections::list` meets its contract: the count of the sections decides whether they are written.
 -- Assumes nothing.
-use mathlib.Core.Path.{sym}
 use native.Mathlib.Omega.{arith}
 use borrow.Author.Needs.{needs}
 use Rattle.sections.proofs.SectionLaws.{passed-few, listed-short, listed-all}
