@@ -1,13 +1,13 @@
 -- An accepted call of a sound table leaves the table and the state that good live pieces determine.
 --
 --   Changed sp w ps o      o is accepted, with what the good live pieces ps determine, within M and C
---   Found, naming-found    an accepted call that names a piece has found it, and did to it what its half says
---   released-changed, extended-changed, shortened-changed     each call
+--   Found, naming-accepted     an accepted call that names a piece has found it, and did to it what its half says
+--   released-changed, resized-changed     each call; sizeOf way z m, the size of a piece of z bytes that is m longer, or m shorter
 --   PutAt t n b, allocated-put     an accepted allocation: b is the rule's place, the piece fits there, and so it is changed
 --
 -- Assumes nothing.
 use Prim.Native.Nat.{ℕ, _+_, _-_, _≤_, _<_}
-use mathlib.Core.Bool.{Bool, true, false}
+use mathlib.Core.Bool.{Bool, true, false, cond, not}
 use mathlib.Core.List.{List, [], List·Memᴰ}
 use mathlib.Core.Path.{_≡_, refl, sym, ap, _∙_, subst}
 use native.Mathlib.Omega.{arith}
@@ -31,6 +31,7 @@ use Rattle.pieces.specs.Pieces.{piece, behind, classOf}
 use Rattle.pieces.specs.declared.Class.{Class}
 use Rattle.pieces.specs.declared.Piece.{Piece}
 use Rattle.pieces.specs.declared.Status.the-variants.{Live}
+use Rattle.pieces.specs.declared.Status.{Status}
 use Rattle.requests.proofs.RequestLaws.{class-small}
 use Rattle.requests.specs.Requests.{classFor}
 use Rattle.room.specs.Room.{roomBehindb, growsBeyondb, remainsb}
@@ -39,15 +40,19 @@ use Rattle.rules.proofs.RemoveLaws.{remove-good}
 use Rattle.rules.specs.Editing.{insert, remove, resize}
 use Rattle.space.proofs.AnswerLaws.{passed, settled-room}
 use Rattle.space.proofs.GiveLaws.{found-named}
-use Rattle.space.specs.Answers.{notSound, unknownCode, zeroAsked, beyondLimit, tableFull, noRoomBehind, tooLittleLeft, notFoundNumber}
+use Rattle.space.specs.Answers.{notSound, unknownCode, zeroAsked, beyondLimit, tableFull, notNamedNumber}
 use Rattle.space.specs.Answers.{SoundSpace, entriesOf, livesOf, Outcome, refusing, plain, stateOf, settled}
-use Rattle.space.specs.Giving.{nameOf, namedIn, whenNamed, naming, entriesBehind, releasedAt, released, extendedAt, extended, shortenedAt, shortened}
+use Rattle.space.specs.Giving.{nameOf, namedIn, whenNamed, naming, releasedAt, released, entriesBehind, newSize, resizedTo, resizedAt, resized}
 use Rattle.space.specs.Placing.{beyondb, Placed, unplaced, placedAt, placed, allocated}
 use Rattle.space.specs.declared.Space.{Space}
-use Rattle.space.specs.declared.answers.NotFound.the-variants.{NotLive}
-use Rattle.space.specs.declared.answers.NotFound.{NotFound}
+use Rattle.space.specs.declared.answers.NotNamed.the-variants.{NoBytes, NotLive}
+use Rattle.space.specs.declared.answers.NotNamed.{NotNamed}
+use Rattle.space.specs.declared.answers.NotResized.the-variants.{NoRoomBehind, BeyondLimit, TooLittleLeft}
 use Rattle.space.specs.declared.give.Named.the-variants.{At, Not}
 use Rattle.space.specs.declared.give.Named.{Named}
+use Rattle.space.specs.declared.give.NewSize.the-variants.{Bytes, Kept}
+use Rattle.space.specs.declared.give.Way.the-variants as way
+use Rattle.space.specs.declared.give.Way.{Way}
 use Rattle.table.proofs.ChainLaws.{chain-le}
 use Rattle.table.proofs.Theorems.{sound-chain, sound-good}
 use Rattle.table.specs.Fill.{fill, endOf, Good}
@@ -71,8 +76,9 @@ passed-place sp w t k p n e = passed unplaced sp w (λ v. v .outcome .refusal) (
 
 -- ---- a call that names a piece
 
-not-found-refused : (why : NotFound) → notFoundNumber why ≡ 0 → ⊥
-not-found-refused NotLive e = omega arith
+not-named-refused : (why : NotNamed) → notNamedNumber why ≡ 0 → ⊥
+not-named-refused NoBytes e = omega arith
+not-named-refused NotLive e = omega arith
 
 -- it has found the piece, and left o
 pub record Found (sp : Space) (w : List ℕ) (a z : ℕ) (found : ℕ → Piece → Outcome) (o : Outcome) : Type 0 where
@@ -86,13 +92,11 @@ pub naming-accepted : (sp : Space) (w : List ℕ) (zero : Bool) (a z : ℕ) (fou
 unfolding naming whenNamed
 naming-accepted sp w zero a z found e =
     let p = passed-outcome sp w _ notSound _ (λ q. omega arith) e in
-    let e1 = rw (p .1) at e in
-    let p1 = passed-outcome sp w _ zeroAsked _ (λ q. omega arith) e1 in
-    rw (p .1) (rw (p1 .1) (go (namedIn sp w a z) refl (rw (p1 .1) at e1)))
+    rw (p .1) (go (namedIn sp w zero a z) refl (rw (p .1) at e))
   where
-    go : (r : Named) → namedIn sp w a z ≡ r → whenNamed sp w found r .refusal ≡ 0 → Found sp w a z found (whenNamed sp w found r)
-    go (Not why) q i = absurd (not-found-refused why i)
-    go (At k x) q i = record { place = k; entry = x; at = found-named sp w a z k x (sym q); is = refl }
+    go : (r : Named) → namedIn sp w zero a z ≡ r → whenNamed sp w found r .refusal ≡ 0 → Found sp w a z found (whenNamed sp w found r)
+    go (Not why) q i = absurd (not-named-refused why i)
+    go (At k x) q i = record { place = k; entry = x; at = found-named sp w zero a z k x (sym q); is = refl }
 
 settled-changed : (sp : Space) (w : List ℕ) (ps : List Piece) → Good (sp .page) ps → endOf (sp .page) ps ≤ sp .limit → settled sp w ps .refusal ≡ 0
     → Changed sp w ps (settled sp w ps)
@@ -163,44 +167,50 @@ module _ (sp : Space) (w : List ℕ) (s : SoundSpace sp w) where
         (room-less (sp .page) pos {n = z} {z = z - k} (omega arith) (found-stands sp w s a z i x f)))
         (resized-within (z - k) (page-within sp w s (a + (z - k)) l)) e
 
-  -- ---- extend
+  -- ---- extend and shorten
 
-  extended-found : (a z m i : ℕ) (x : Piece) (f : FoundAt a z (entriesOf sp w) i x) → extendedAt sp a z m w i x .refusal ≡ 0
-      → Changed sp w (resize (nameOf a z) (z + m) (livesOf sp w)) (extendedAt sp a z m w i x)
-  unfolding extendedAt
-  extended-found a z m i x f e =
-      let p = passed-outcome sp w _ noRoomBehind _ (λ q. omega arith) e in
-      let e1 = rw (p .1) at e in
-      let p1 = passed-outcome sp w _ beyondLimit _ (λ q. omega arith) e1 in
-      let t : roomBehindb (sp .page) (classOf (x .status)) (a + z) z m (entriesBehind sp w i) ≡ true = passes refl (p .0) in
-      let r : roomBehindb (sp .page) (f .named .class) (a + z) z m (entriesBehind sp w i) ≡ true = rw (f .named .live) at t in
-      rw (p .1) (rw (p1 .1) (longer-changed a z i x f m r (p1 .0) (rw (p1 .1) at e1)))
+  longer-accepted : (a z m i : ℕ) (x : Piece) (f : FoundAt a z (entriesOf sp w) i x) → resizedAt sp a z way.Longer m w i x .refusal ≡ 0
+      → Changed sp w (resize (nameOf a z) (z + m) (livesOf sp w)) (resizedAt sp a z way.Longer m w i x)
+  unfolding newSize resizedTo
+  longer-accepted a z m i x f e =
+      go _ (ap (λ (t : Status). roomBehindb (sp .page) (classOf t) (a + z) z m (entriesBehind sp w i)) (f .named .live)) _ refl e
+    where
+      go : (r : Bool) → r ≡ roomBehindb (sp .page) (f .named .class) (a + z) z m (entriesBehind sp w i) → (g : Bool)
+          → growsBeyondb (sp .page) (sp .limit) (a + z) m (entriesBehind sp w i) ≡ g
+          → resizedTo sp a z w (cond (not r) (Kept NoRoomBehind) (cond g (Kept BeyondLimit) (Bytes (z + m)))) .refusal ≡ 0
+          → Changed sp w (resize (nameOf a z) (z + m) (livesOf sp w))
+          (resizedTo sp a z w (cond (not r) (Kept NoRoomBehind) (cond g (Kept BeyondLimit) (Bytes (z + m)))))
+      go false room g grows q = absurd (omega arith)
+      go true room true grows q = absurd (omega arith)
+      go true room false grows q = longer-changed a z i x f m (sym room) grows q
 
-  pub extended-changed : (a z m : ℕ) → extended sp a z m w .refusal ≡ 0 → Changed sp w (resize (nameOf a z) (z + m) (livesOf sp w)) (extended sp a z m w)
-  unfolding extended
-  extended-changed a z m e =
-      let f = naming-accepted sp w _ a z (extendedAt sp a z m w) e in
-      subst (Changed sp w (resize (nameOf a z) (z + m) (livesOf sp w))) (sym (f .is))
-      (extended-found a z m (f .place) (f .entry) (f .at) (rw (f .is) at e))
+  shorter-accepted : (a z k i : ℕ) (x : Piece) (f : FoundAt a z (entriesOf sp w) i x) → resizedAt sp a z way.Shorter k w i x .refusal ≡ 0
+      → Changed sp w (resize (nameOf a z) (z - k) (livesOf sp w)) (resizedAt sp a z way.Shorter k w i x)
+  unfolding newSize resizedTo
+  shorter-accepted a z k i x f e = go _ (ap (λ (t : Status). remainsb (sp .page) (classOf t) z k) (f .named .live)) e
+    where
+      go : (r : Bool) → r ≡ remainsb (sp .page) (f .named .class) z k
+          → resizedTo sp a z w (cond (not r) (Kept TooLittleLeft) (Bytes (z - k))) .refusal ≡ 0
+          → Changed sp w (resize (nameOf a z) (z - k) (livesOf sp w)) (resizedTo sp a z w (cond (not r) (Kept TooLittleLeft) (Bytes (z - k))))
+      go false left q = absurd (omega arith)
+      go true left q = shorter-changed a z i x f k (sym left) q
 
-  -- ---- shorten
+  abbrev pub sizeOf : Way → ℕ → ℕ → ℕ
+  sizeOf way.Longer z m = z + m
+  sizeOf way.Shorter z m = z - m
 
-  shortened-found : (a z k i : ℕ) (x : Piece) (f : FoundAt a z (entriesOf sp w) i x) → shortenedAt sp a z k w i x .refusal ≡ 0
-      → Changed sp w (resize (nameOf a z) (z - k) (livesOf sp w)) (shortenedAt sp a z k w i x)
-  unfolding shortenedAt
-  shortened-found a z k i x f e =
-      let p = passed-outcome sp w _ tooLittleLeft _ (λ q. omega arith) e in
-      let t : remainsb (sp .page) (classOf (x .status)) z k ≡ true = passes refl (p .0) in
-      let r : remainsb (sp .page) (f .named .class) z k ≡ true = rw (f .named .live) at t in
-      rw (p .1) (shorter-changed a z i x f k r (rw (p .1) at e))
+  found-resized : (way : Way) (a z m i : ℕ) (x : Piece) (f : FoundAt a z (entriesOf sp w) i x) → resizedAt sp a z way m w i x .refusal ≡ 0
+      → Changed sp w (resize (nameOf a z) (sizeOf way z m) (livesOf sp w)) (resizedAt sp a z way m w i x)
+  found-resized way.Longer = longer-accepted
+  found-resized way.Shorter = shorter-accepted
 
-  pub shortened-changed : (a z k : ℕ) → shortened sp a z k w .refusal ≡ 0
-      → Changed sp w (resize (nameOf a z) (z - k) (livesOf sp w)) (shortened sp a z k w)
-  unfolding shortened
-  shortened-changed a z k e =
-      let f = naming-accepted sp w _ a z (shortenedAt sp a z k w) e in
-      subst (Changed sp w (resize (nameOf a z) (z - k) (livesOf sp w))) (sym (f .is))
-      (shortened-found a z k (f .place) (f .entry) (f .at) (rw (f .is) at e))
+  pub resized-changed : (a z : ℕ) (way : Way) (m : ℕ) → resized sp a z way m w .refusal ≡ 0
+      → Changed sp w (resize (nameOf a z) (sizeOf way z m) (livesOf sp w)) (resized sp a z way m w)
+  unfolding resized
+  resized-changed a z way m e =
+      let f = naming-accepted sp w _ a z (resizedAt sp a z way m w) e in
+      subst (Changed sp w (resize (nameOf a z) (sizeOf way z m) (livesOf sp w))) (sym (f .is))
+      (found-resized way a z m (f .place) (f .entry) (f .at) (rw (f .is) at e))
 
   -- ---- allocate
 

@@ -21,9 +21,9 @@ use Rattle.rules.proofs.CountLaws.{release-count}
 use Rattle.rules.proofs.RemoveLaws.{named-address, named-size}
 use Rattle.rules.specs.Editing.{Name, remove}
 use Rattle.space.proofs.AnswerLaws.{settled-room}
-use Rattle.space.proofs.GiveLaws.{released-naming, naming-asked}
+use Rattle.space.proofs.GiveLaws.{released-naming, naming-sound}
 use Rattle.space.specs.Answers.{SoundSpace, entriesOf, livesOf, stateOf, settled}
-use Rattle.space.specs.Giving.{namedAs, whenNamed, releasedAt, released}
+use Rattle.space.specs.Giving.{namedAs, namedIn, whenNamed, releasedAt, released}
 use Rattle.space.specs.declared.Space.{Space}
 use Rattle.table.proofs.Theorems.{sound-good}
 use Rattle.table.specs.Fill.{fill}
@@ -41,10 +41,10 @@ module _ (sp : Space) (w : List ℕ) (n : Name) (s : SoundSpace sp w) (h : Among
       (record { class = l .class; live = l .live; address = named-address n (h .it) (h .named); size = named-size n (h .it) (h .named) })
 
   released-settled : released sp (n .address) (n .size) w ≡ settled sp w left
-  unfolding whenNamed releasedAt
+  unfolding namedIn whenNamed releasedAt
   released-settled =
       released-naming sp (n .address) (n .size) w
-      ∙ (naming-asked sp w false (n .address) (n .size) _ s refl ∙ go (findLive (n .address) (n .size) 0 (entriesOf sp w)) refl)
+      ∙ (naming-sound sp w false (n .address) (n .size) _ s ∙ go (findLive (n .address) (n .size) 0 (entriesOf sp w)) refl)
     where
       go : (f : Found) → findLive (n .address) (n .size) 0 (entriesOf sp w) ≡ f
           → whenNamed sp w (releasedAt sp (n .address) (n .size) w) (namedAs f) ≡ settled sp w left

@@ -26,9 +26,10 @@ use Rattle.requests.specs.Requests.{classFor}
 use Rattle.rules.proofs.RemoveLaws.{named-address, named-size}
 use Rattle.rules.specs.Editing.{names}
 use Rattle.space.specs.Answers.{entriesOf, livesOf, Outcome}
-use Rattle.space.specs.Giving.{nameOf, extendedAt, extended}
+use Rattle.space.specs.Giving.{nameOf, resizedAt, resized, extended}
 use Rattle.space.specs.Placing.{allocated}
 use Rattle.space.specs.declared.Space.{Space}
+use Rattle.space.specs.declared.give.Way.the-variants.{Longer}
 use Rattle.table.specs.Theorems.{Holds}
 
 -- ---- the live pieces
@@ -73,9 +74,9 @@ allocated-new sp t s w h v l u x i k =
 
 -- an extend that is accepted names a live piece
 extended-live : (sp : Space) (a z m : ℕ) (w : List ℕ) → extended sp a z m w .refusal ≡ 0 → IsLive (entriesOf sp w) (nameOf a z)
-unfolding extended
+unfolding resized
 extended-live sp a z m w e =
-    let f = naming-accepted sp w _ a z (extendedAt sp a z m w) e in
+    let f = naming-accepted sp w _ a z (resizedAt sp a z Longer m w) e in
     record { entry = f .entry; among = entry-among (f .at .entry); named = f .at .named }
 
 extended-new : (sp : Space) (a z m : ℕ) (w : List ℕ) → Accepted (extends a z m) sp w → NotLive sp w (a + z) (a + z + m)

@@ -41,11 +41,18 @@ use Rattle.space.proofs.AnswerLaws.{is-sound-true, sound-true}
 use Rattle.space.proofs.OpenLaws.{opened-refused, opened-done}
 use Rattle.space.specs.Answers.{notSound, unknownCode, zeroAsked, beyondLimit, tableFull, notLive, noRoomBehind, tooLittleLeft, sliceTooShort}
 use Rattle.space.specs.Answers.{SoundSpace, soundb, entriesOf, livesOf, Outcome, refusing, plain, settled}
-use Rattle.space.specs.Giving.{nameOf, namedAs, whenNamed, naming, releasedAt, released, extendedAt, extended, shortenedAt, shortened}
+use Rattle.space.specs.Giving.{nameOf, namedAs, namedIn, whenNamed, naming, releasedAt, released}
+use Rattle.space.specs.Giving.{newSize, resizedTo, resizedAt, resized, extended, shortened}
 use Rattle.space.specs.Listing.{ListOutcome, listedAs, listed}
 use Rattle.space.specs.Opening.{opened}
 use Rattle.space.specs.Placing.{Placed, placedAt, placed, allocated}
 use Rattle.space.specs.declared.Space.{Space}
+use Rattle.space.specs.declared.answers.NotNamed.the-variants.{NoBytes}
+use Rattle.space.specs.declared.answers.NotResized.the-variants.{NoRoomBehind, BeyondLimit, TooLittleLeft}
+use Rattle.space.specs.declared.give.Named.the-variants.{Not}
+use Rattle.space.specs.declared.give.NewSize.the-variants.{Kept}
+use Rattle.space.specs.declared.give.NewSize.{NewSize}
+use Rattle.space.specs.declared.give.Way.the-variants.{Longer, Shorter}
 use Rattle.table.proofs.LocalLaws.{ranges-true, true-ranges}
 use Rattle.table.specs.Fill.{fill}
 use Rattle.table.specs.Local.{rangesb}
@@ -106,16 +113,16 @@ module _ (sp : Space) (w : List ℕ) where
     Named r = Given r notLive (NotNamed a z) (Rest r)
 
     naming-row : Given (naming sp w false a z found .refusal) notSound (SoundSpace sp w → ⊥) (Named (naming sp w false a z found .refusal))
-    unfolding naming refusing
+    unfolding naming namedIn refusing
     naming-row = sound-row _ Named (λ s. found-row a z found Rest (h s) (findLive a z 0 (entriesOf sp w)) refl)
 
     asking-row : (m : ℕ)
         → Given (naming sp w (eqb z 0 || eqb m 0) a z found .refusal) notSound (SoundSpace sp w → ⊥)
         (Given (naming sp w (eqb z 0 || eqb m 0) a z found .refusal) zeroAsked (ZeroAsked z m) (Named (naming sp w (eqb z 0 || eqb m 0) a z found .refusal)))
-    unfolding naming refusing
+    unfolding naming namedIn whenNamed refusing
     asking-row m =
         sound-row _ (λ r. Given r zeroAsked (ZeroAsked z m) (Named r))
-        (λ s. first refusalOf zeroAsked _ _ refl Named _ (zero-test z m) (test-zero z m)
+        (λ s. first (λ r. whenNamed sp w found r .refusal) zeroAsked (Not NoBytes) _ refl Named _ (zero-test z m) (test-zero z m)
         (λ e. found-row a z found Rest (h s) (findLive a z 0 (entriesOf sp w)) refl))
 
 -- ---- an extend and a shorten, behind the name
@@ -130,22 +137,27 @@ module _ (sp : Space) (w : List ℕ) (s : SoundSpace sp w) (a z i : ℕ) (x : Pi
   abbrev GrownRow : ℕ → ℕ → Type 0
   GrownRow m r = Given r beyondLimit (Beyond sp w s a z i x f m) (SettledRow (longer m) r)
 
-  extend-row : (m : ℕ) → Given (extendedAt sp a z m w i x .refusal) noRoomBehind (HasRoom sp w a z m → ⊥) (GrownRow m (extendedAt sp a z m w i x .refusal))
-  unfolding extendedAt refusing
+  -- the number of a new size
+  abbrev sized : NewSize → ℕ
+  sized n = resizedTo sp a z w n .refusal
+
+  extend-row : (m : ℕ) → Given (resizedAt sp a z Longer m w i x .refusal) noRoomBehind (HasRoom sp w a z m → ⊥)
+      (GrownRow m (resizedAt sp a z Longer m w i x .refusal))
+  unfolding newSize resizedTo
   extend-row m =
       let there = the-room sp w s a z i x f m in
-      first-not refusalOf noRoomBehind _ _ refl (GrownRow m) (room sp w s a z i x f m (classOf (x .status))) (has-room sp w s a z i x f m) there
-      (λ h. first refusalOf beyondLimit _ _ refl (SettledRow (longer m)) _ (grows-last sp w s a z i x f m (there h)) (last-grows sp w s a z i x f m)
-      (λ e. settled-row sp w (longer m)))
+      first-not sized noRoomBehind (Kept NoRoomBehind) _ refl (GrownRow m) (room sp w s a z i x f m (classOf (x .status))) (has-room sp w s a z i x f m) there
+      (λ h. first sized beyondLimit (Kept BeyondLimit) _ refl (SettledRow (longer m)) _
+      (grows-last sp w s a z i x f m (there h)) (last-grows sp w s a z i x f m) (λ e. settled-row sp w (longer m)))
 
   abbrev shorter : ℕ → List Piece
   shorter k = resize (nameOf a z) (z - k) (livesOf sp w)
 
-  shorten-row : (k : ℕ) → Given (shortenedAt sp a z k w i x .refusal) tooLittleLeft (HasLeft sp w a z k → ⊥)
-      (SettledRow (shorter k) (shortenedAt sp a z k w i x .refusal))
-  unfolding shortenedAt refusing
+  shorten-row : (k : ℕ) → Given (resizedAt sp a z Shorter k w i x .refusal) tooLittleLeft (HasLeft sp w a z k → ⊥)
+      (SettledRow (shorter k) (resizedAt sp a z Shorter k w i x .refusal))
+  unfolding newSize resizedTo
   shorten-row k =
-      first-not refusalOf tooLittleLeft _ _ refl (SettledRow (shorter k)) (remainsb (sp .page) (classOf (x .status)) z k)
+      first-not sized tooLittleLeft (Kept TooLittleLeft) _ refl (SettledRow (shorter k)) (remainsb (sp .page) (classOf (x .status)) z k)
       (has-left sp w s a z i x f k) (the-left sp w s a z i x f k) (λ h. settled-row sp w (shorter k))
 
 -- ---- each call
@@ -158,8 +170,8 @@ module _ (sp : Space) (w : List ℕ) where
       naming-row sp w a z (releasedAt sp a z w) (λ r. Given r tableFull (TooMany sp w ps) (r ≡ 0)) (λ s i x f. settled-row sp w ps)
 
   extended-row : (a z m : ℕ) → Row (extends a z m) sp w (extended sp a z m w .refusal)
-  unfolding extended
-  extended-row a z m = asking-row sp w a z (extendedAt sp a z m w) Behind (λ s i x f. extend-row sp w s a z i x f m) m
+  unfolding resized
+  extended-row a z m = asking-row sp w a z (resizedAt sp a z Longer m w) Behind (λ s i x f. extend-row sp w s a z i x f m) m
     where
       Behind : ℕ → Type 0
       Behind r =
@@ -168,8 +180,8 @@ module _ (sp : Space) (w : List ℕ) where
           (Given r tableFull (TooMany sp w (resize (nameOf a z) (z + m) (livesOf sp w))) (r ≡ 0)))
 
   shortened-row : (a z k : ℕ) → Row (shortens a z k) sp w (shortened sp a z k w .refusal)
-  unfolding shortened
-  shortened-row a z k = asking-row sp w a z (shortenedAt sp a z k w) Left (λ s i x f. shorten-row sp w s a z i x f k) k
+  unfolding resized
+  shortened-row a z k = asking-row sp w a z (resizedAt sp a z Shorter k w) Left (λ s i x f. shorten-row sp w s a z i x f k) k
     where
       Left : ℕ → Type 0
       Left r =

@@ -10,7 +10,7 @@ use mathlib.Core.List.{List, [], _∷_, List·Memᴰ, List·Memᴰ·head, List·
 use mathlib.Core.Path.{_≡_, refl, sym, ap, _∙_, subst}
 use native.Mathlib.Omega.{arith}
 use lib.ListN.{length, length-replicate}
-use Rattle.accepted.proofs.AcceptedLaws.{Changed, released-changed, extended-changed, shortened-changed, allocated-put}
+use Rattle.accepted.proofs.AcceptedLaws.{Changed, released-changed, resized-changed, allocated-put}
 use Rattle.accepted.proofs.KeptLaws.{tabled, tabled-length, tabled-sound}
 use Rattle.demands.proofs.Refusals.{refusals}
 use Rattle.demands.specs.Calls.{Call, called, refusalsOf, handedBack, OnSpace, allocating, releasing, extending, shortening, ran, edited}
@@ -21,6 +21,7 @@ use Rattle.space.proofs.AnswerLaws.{is-sound-true}
 use Rattle.space.specs.Answers.{SoundSpace, Outcome, stateOf}
 use Rattle.space.specs.Opening.{opened}
 use Rattle.space.specs.declared.Space.{Space}
+use Rattle.space.specs.declared.give.Way.the-variants.{Longer, Shorter}
 use Rattle.table.proofs.Theorems.{tiling}
 use Rattle.table.specs.Local.{rangesb}
 
@@ -30,8 +31,8 @@ pub changed : {c : Call} (sp : Space) (w : List ℕ) → OnSpace c → SoundSpac
 unfolding called
 changed sp w (allocating {t = t} {s = n}) s e = allocated-put sp w s t n e .changed
 changed sp w (releasing {a = a} {z = z}) s e = released-changed sp w s a z e
-changed sp w (extending {a = a} {z = z} {m = m}) s e = extended-changed sp w s a z m e
-changed sp w (shortening {a = a} {z = z} {k = k}) s e = shortened-changed sp w s a z k e
+changed sp w (extending {a = a} {z = z} {m = m}) s e = resized-changed sp w s a z Longer m e
+changed sp w (shortening {a = a} {z = z} {k = k}) s e = resized-changed sp w s a z Shorter k e
 
 handed-back : {c : Call} (sp : Space) → OnSpace c → handedBack c sp ≡ sp
 handed-back sp allocating = refl

@@ -12,24 +12,23 @@ use mathlib.Core.Path.{_≡_, refl, sym, ap, _∙_}
 use lib.Dec.{eqb}
 use Rattle.demands.specs.Demands.{Unique, OneResult}
 use Rattle.space.specs.Answers.{notSound, unknownCode, zeroAsked, beyondLimit, notLive, noRoomBehind, tooLittleLeft}
-use Rattle.space.specs.Answers.{openNumber, allocateNumber, addressOf, releaseNumber, extendNumber, shortenNumber, listNumber, countOf, Outcome}
+use Rattle.space.specs.Answers.{openNumber, allocateNumber, addressOf, releaseNumber, resizeNumber, listNumber, countOf, Outcome}
 use Rattle.space.specs.Giving.{released, extended, shortened}
 use Rattle.space.specs.Listing.{ListOutcome, listed}
 use Rattle.space.specs.Opening.{opened, defaultPage, defaultLimit}
 use Rattle.space.specs.Placing.{Placed, allocated}
-use Rattle.space.specs.Said.{openSaid, allocateSaid, releaseSaid, extendSaid, shortenSaid, listSaid}
+use Rattle.space.specs.Said.{openSaid, allocateSaid, releaseSaid, resizeSaid, listSaid}
 use Rattle.space.specs.declared.answers.AllocateAnswer.{AllocateAnswer}
-use Rattle.space.specs.declared.answers.ExtendAnswer.{ExtendAnswer}
 use Rattle.space.specs.declared.answers.ListAnswer.{ListAnswer}
 use Rattle.space.specs.declared.answers.OpenAnswer.{OpenAnswer}
 use Rattle.space.specs.declared.answers.ReleaseAnswer.{ReleaseAnswer}
-use Rattle.space.specs.declared.answers.ShortenAnswer.{ShortenAnswer}
-use Rattle.space.specs.declared.answers.NotFound.the-variants.{NotLive}
+use Rattle.space.specs.declared.answers.ResizeAnswer.{ResizeAnswer}
+use Rattle.space.specs.declared.answers.NotNamed.the-variants.{NoBytes, NotLive}
+use Rattle.space.specs.declared.answers.NotResized.the-variants.{NoRoomBehind, BeyondLimit, TooLittleLeft}
 use Rattle.space.specs.declared.answers.OpenAnswer.the-variants as opening
 use Rattle.space.specs.declared.answers.AllocateAnswer.the-variants as allocating
 use Rattle.space.specs.declared.answers.ReleaseAnswer.the-variants as releasing
-use Rattle.space.specs.declared.answers.ExtendAnswer.the-variants as extending
-use Rattle.space.specs.declared.answers.ShortenAnswer.the-variants as shortening
+use Rattle.space.specs.declared.answers.ResizeAnswer.the-variants as resizing
 use Rattle.space.specs.declared.answers.ListAnswer.the-variants as listing
 
 -- ---- the general argument
@@ -54,22 +53,18 @@ allocateOf k a =
 releaseOf : ℕ → ReleaseAnswer
 releaseOf k =
     cond (eqb k 0) releasing.Done
-    (cond (eqb k notSound) releasing.NotSound (cond (eqb k notLive) (releasing.NotFound NotLive) releasing.TableFull))
+    (cond (eqb k notSound) releasing.NotSound
+    (cond (eqb k zeroAsked) (releasing.NotNamed NoBytes) (cond (eqb k notLive) (releasing.NotNamed NotLive) releasing.TableFull)))
 
-extendOf : ℕ → ExtendAnswer
-extendOf k =
-    cond (eqb k 0) extending.Done
-    (cond (eqb k notSound) extending.NotSound
-    (cond (eqb k zeroAsked) extending.NoBytes
-    (cond (eqb k notLive) (extending.NotFound NotLive)
-    (cond (eqb k noRoomBehind) extending.NoRoomBehind (cond (eqb k beyondLimit) extending.BeyondLimit extending.TableFull)))))
-
-shortenOf : ℕ → ShortenAnswer
-shortenOf k =
-    cond (eqb k 0) shortening.Done
-    (cond (eqb k notSound) shortening.NotSound
-    (cond (eqb k zeroAsked) shortening.NoBytes
-    (cond (eqb k notLive) (shortening.NotFound NotLive) (cond (eqb k tooLittleLeft) shortening.TooLittleLeft shortening.TableFull))))
+resizeOf : ℕ → ResizeAnswer
+resizeOf k =
+    cond (eqb k 0) resizing.Done
+    (cond (eqb k notSound) resizing.NotSound
+    (cond (eqb k zeroAsked) (resizing.NotNamed NoBytes)
+    (cond (eqb k notLive) (resizing.NotNamed NotLive)
+    (cond (eqb k noRoomBehind) (resizing.NotResized NoRoomBehind)
+    (cond (eqb k beyondLimit) (resizing.NotResized BeyondLimit)
+    (cond (eqb k tooLittleLeft) (resizing.NotResized TooLittleLeft) resizing.TableFull))))))
 
 listOf : ℕ → ℕ → ListAnswer
 listOf k count =
@@ -94,27 +89,20 @@ release-back : (a : ReleaseAnswer) → releaseOf (releaseNumber a) ≡ a
 unfolding releaseOf
 release-back releasing.Done = refl
 release-back releasing.NotSound = refl
-release-back (releasing.NotFound NotLive) = refl
+release-back (releasing.NotNamed NoBytes) = refl
+release-back (releasing.NotNamed NotLive) = refl
 release-back releasing.TableFull = refl
 
-extend-back : (a : ExtendAnswer) → extendOf (extendNumber a) ≡ a
-unfolding extendOf
-extend-back extending.Done = refl
-extend-back extending.NotSound = refl
-extend-back extending.NoBytes = refl
-extend-back (extending.NotFound NotLive) = refl
-extend-back extending.NoRoomBehind = refl
-extend-back extending.BeyondLimit = refl
-extend-back extending.TableFull = refl
-
-shorten-back : (a : ShortenAnswer) → shortenOf (shortenNumber a) ≡ a
-unfolding shortenOf
-shorten-back shortening.Done = refl
-shorten-back shortening.NotSound = refl
-shorten-back shortening.NoBytes = refl
-shorten-back (shortening.NotFound NotLive) = refl
-shorten-back shortening.TooLittleLeft = refl
-shorten-back shortening.TableFull = refl
+resize-back : (a : ResizeAnswer) → resizeOf (resizeNumber a) ≡ a
+unfolding resizeOf
+resize-back resizing.Done = refl
+resize-back resizing.NotSound = refl
+resize-back (resizing.NotNamed NoBytes) = refl
+resize-back (resizing.NotNamed NotLive) = refl
+resize-back (resizing.NotResized NoRoomBehind) = refl
+resize-back (resizing.NotResized BeyondLimit) = refl
+resize-back (resizing.NotResized TooLittleLeft) = refl
+resize-back resizing.TableFull = refl
 
 list-back : (a : ListAnswer) → listOf (listNumber a) (countOf a) ≡ a
 unfolding listOf
@@ -143,15 +131,10 @@ release-unique =
     unique releaseSaid (λ o. record { space = o .state; answer = releaseOf (o .refusal) }) wordsOf
     (λ r v i. record { space = r .space; answer = release-back (r .answer) i }) (λ r v. refl)
 
-extend-unique : (o : Outcome) → Unique extendSaid o
-extend-unique =
-    unique extendSaid (λ o. record { space = o .state; answer = extendOf (o .refusal) }) wordsOf
-    (λ r v i. record { space = r .space; answer = extend-back (r .answer) i }) (λ r v. refl)
-
-shorten-unique : (o : Outcome) → Unique shortenSaid o
-shorten-unique =
-    unique shortenSaid (λ o. record { space = o .state; answer = shortenOf (o .refusal) }) wordsOf
-    (λ r v i. record { space = r .space; answer = shorten-back (r .answer) i }) (λ r v. refl)
+resize-unique : (o : Outcome) → Unique resizeSaid o
+resize-unique =
+    unique resizeSaid (λ o. record { space = o .state; answer = resizeOf (o .refusal) }) wordsOf
+    (λ r v i. record { space = r .space; answer = resize-back (r .answer) i }) (λ r v. refl)
 
 list-unique : (o : ListOutcome) → Unique listSaid o
 list-unique =
@@ -165,7 +148,7 @@ one-result =
       default-opening = λ w. open-unique (opened defaultPage defaultLimit w);
       allocating = λ sp t s w. allocate-unique (allocated sp t s w);
       releasing = λ sp a z w. release-unique (released sp a z w);
-      extending = λ sp a z m w. extend-unique (extended sp a z m w);
-      shortening = λ sp a z k w. shorten-unique (shortened sp a z k w);
+      extending = λ sp a z m w. resize-unique (extended sp a z m w);
+      shortening = λ sp a z k w. resize-unique (shortened sp a z k w);
       listing = λ sp m w v. list-unique (listed sp m w v);
     }

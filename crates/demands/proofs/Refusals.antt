@@ -2,12 +2,12 @@
 --
 --   refusing-in           one refusal more in front of what a call leaves: refusing-answered, refusing-place, refusing-list
 --   settled-answered      a change that may find the table full
---   naming-answered       the front of the calls that name a piece
+--   naming-answered       the front of the calls that name a piece; longer-answered, shorter-answered its new size
 --   refusals              the statement
 --
 -- Assumes nothing.
-use Prim.Native.Nat.{ℕ}
-use mathlib.Core.Bool.{Bool, true, false, cond}
+use Prim.Native.Nat.{ℕ, _+_, _-_}
+use mathlib.Core.Bool.{Bool, true, false, cond, not}
 use mathlib.Core.List.{List, [], _∷_, List·Memᴰ, List·Memᴰ·head, List·Memᴰ·tail as on}
 use mathlib.Core.Path.{_≡_, refl, ap, _∙_}
 use lib.Dec.{eqb}
@@ -17,22 +17,30 @@ use Rattle.choose.specs.declared.place.Place.{Place}
 use Rattle.demands.specs.Calls.{Call, called, refusalsOf, listRefusals, handedBack, OnSpace, allocating, releasing, extending, shortening}
 use Rattle.demands.specs.Calls.{opens, allocates, releases, extends, shortens}
 use Rattle.demands.specs.Demands.{Answered, accepted, refused, listOutcome, Refusals}
+use Rattle.find.specs.Find.{findLive}
+use Rattle.find.specs.declared.Found.the-variants as finding
+use Rattle.find.specs.declared.Found.{Found}
 use Rattle.pages.proofs.Numbers.{not-both}
+use Rattle.pieces.specs.Pieces.{classOf}
 use Rattle.pieces.specs.declared.Class.{Class}
 use Rattle.pieces.specs.declared.Piece.{Piece}
-use Rattle.space.proofs.GiveLaws.{naming-unsound, released-naming, extended-naming, shortened-naming}
+use Rattle.room.specs.Room.{roomBehindb, growsBeyondb, remainsb}
+use Rattle.space.proofs.GiveLaws.{naming-unsound, released-naming, resized-naming}
 use Rattle.space.proofs.OpenLaws.{nowhere-unsound}
 use Rattle.space.proofs.PlaceLaws.{allocated-unsound}
-use Rattle.space.specs.Answers.{outOfRange, notSound, zeroAsked, tableFull, noAddress, notFoundNumber, Outcome, refusing, plain, settled}
-use Rattle.space.specs.Giving.{namedIn, whenNamed, naming, releasedAt, released, extendedAt, extended, shortenedAt, shortened}
+use Rattle.space.specs.Answers.{entriesOf, Outcome, refusing, plain, settled}
+use Rattle.space.specs.Answers.{outOfRange, notSound, zeroAsked, tableFull, notLive, noRoomBehind, beyondLimit, tooLittleLeft, noAddress}
+use Rattle.space.specs.Giving.{namedAs, namedIn, whenNamed, naming, releasedAt, released}
+use Rattle.space.specs.Giving.{entriesBehind, newSize, resizedTo, resizedAt, resized, extended, shortened}
 use Rattle.space.specs.Listing.{ListOutcome, uncounted, listedAs, listed}
 use Rattle.space.specs.Opening.{nowhere, opened}
 use Rattle.space.specs.Placing.{Placed, unplaced, placedAt, placed, allocated}
 use Rattle.space.specs.declared.Space.{Space}
-use Rattle.space.specs.declared.answers.NotFound.the-variants.{NotLive}
-use Rattle.space.specs.declared.answers.NotFound.{NotFound}
-use Rattle.space.specs.declared.give.Named.the-variants.{At, Not}
-use Rattle.space.specs.declared.give.Named.{Named}
+use Rattle.space.specs.declared.answers.NotNamed.the-variants.{NoBytes}
+use Rattle.space.specs.declared.answers.NotResized.the-variants.{NoRoomBehind, BeyondLimit, TooLittleLeft}
+use Rattle.space.specs.declared.give.Named.the-variants.{Not}
+use Rattle.space.specs.declared.give.NewSize.the-variants.{Bytes, Kept}
+use Rattle.space.specs.declared.give.Way.the-variants.{Longer, Shorter}
 use Rattle.table.specs.Local.{rangesb}
 
 -- ---- one refusal more
@@ -66,23 +74,30 @@ module _ {ks : List ℕ} {sp : Space} {w : List ℕ} where
   unfolding settled
   settled-answered ps i = refusing-answered _ i (accepted refl)
 
-  -- 4 is among the numbers where the call has that refusal
-  zero-answered : {o : Outcome} (t : Bool) → (t ≡ true → List·Memᴰ zeroAsked ks) → Answered ks sp w o
-      → Answered ks sp w (refusing plain sp w t zeroAsked o)
-  unfolding refusing
-  zero-answered true j h = refused-answered (j refl)
-  zero-answered false j h = h
-
-  -- the front of the calls that name a piece
+  -- the front of the calls that name a piece; 4 is among the numbers where the call has that refusal
   naming-answered : (zero : Bool) (a z : ℕ) (found : ℕ → Piece → Outcome) → List·Memᴰ notSound ks → (zero ≡ true → List·Memᴰ zeroAsked ks)
-      → ((why : NotFound) → List·Memᴰ (notFoundNumber why) ks) → ((i : ℕ) (x : Piece) → Answered ks sp w (found i x))
-      → Answered ks sp w (naming sp w zero a z found)
-  unfolding naming whenNamed
-  naming-answered zero a z found i j n h = refusing-answered _ i (zero-answered zero j (named (namedIn sp w a z)))
+      → List·Memᴰ notLive ks → ((i : ℕ) (x : Piece) → Answered ks sp w (found i x)) → Answered ks sp w (naming sp w zero a z found)
+  unfolding naming namedIn whenNamed
+  naming-answered zero a z found i j n h = refusing-answered _ i (named zero j (findLive a z 0 (entriesOf sp w)))
     where
-      named : (r : Named) → Answered ks sp w (whenNamed sp w found r)
-      named (Not why) = refused-answered (n why)
-      named (At k x) = h k x
+      named : (t : Bool) → (t ≡ true → List·Memᴰ zeroAsked ks) → (f : Found) → Answered ks sp w (whenNamed sp w found (cond t (Not NoBytes) (namedAs f)))
+      named true j f = refused-answered (j refl)
+      named false j (finding.At k x) = h k x
+      named false j finding.Missing = refused-answered n
+
+  -- an extend's new size, by what its two tests say, and a shorten's
+  longer-answered : (a z m : ℕ) (room beyond : Bool) → List·Memᴰ noRoomBehind ks → List·Memᴰ beyondLimit ks → List·Memᴰ tableFull ks
+      → Answered ks sp w (resizedTo sp a z w (cond (not room) (Kept NoRoomBehind) (cond beyond (Kept BeyondLimit) (Bytes (z + m)))))
+  unfolding resizedTo
+  longer-answered a z m false b i j k = refused-answered i
+  longer-answered a z m true true i j k = refused-answered j
+  longer-answered a z m true false i j k = settled-answered _ k
+
+  shorter-answered : (a z m : ℕ) (left : Bool) → List·Memᴰ tooLittleLeft ks → List·Memᴰ tableFull ks
+      → Answered ks sp w (resizedTo sp a z w (cond (not left) (Kept TooLittleLeft) (Bytes (z - m))))
+  unfolding resizedTo
+  shorter-answered a z m false i k = refused-answered i
+  shorter-answered a z m true i k = settled-answered _ k
 
 -- ---- each call
 
@@ -109,30 +124,21 @@ module _ (sp : Space) (w : List ℕ) where
   released-answered : (a z : ℕ) → Answered (refusalsOf (releases a z)) sp w (released sp a z w)
   unfolding released releasedAt
   released-answered a z =
-      naming-answered false a z (releasedAt sp a z w) here (λ e. absurd (not-both e refl)) numbers (λ i x. settled-answered _ (on (on here)))
-    where
-      numbers : (why : NotFound) → List·Memᴰ (notFoundNumber why) (refusalsOf (releases a z))
-      numbers NotLive = on here
+      naming-answered false a z (releasedAt sp a z w) here (λ e. absurd (not-both e refl)) (on here) (λ i x. settled-answered _ (on (on here)))
 
   extended-answered : (a z m : ℕ) → Answered (refusalsOf (extends a z m)) sp w (extended sp a z m w)
-  unfolding extended extendedAt
+  unfolding resized newSize
   extended-answered a z m =
-      naming-answered _ a z (extendedAt sp a z m w) here (λ e. on here) numbers
-      (λ i x. refusing-answered _ (on (on (on here)))
-      (refusing-answered _ (on (on (on (on here)))) (settled-answered _ (on (on (on (on (on here)))))))
-      )
-    where
-      numbers : (why : NotFound) → List·Memᴰ (notFoundNumber why) (refusalsOf (extends a z m))
-      numbers NotLive = on (on here)
+      naming-answered _ a z (resizedAt sp a z Longer m w) here (λ e. on here) (on (on here))
+      (λ i x. longer-answered a z m (roomBehindb (sp .page) (classOf (x .status)) (a + z) z m (entriesBehind sp w i))
+      (growsBeyondb (sp .page) (sp .limit) (a + z) m (entriesBehind sp w i))
+      (on (on (on here))) (on (on (on (on here)))) (on (on (on (on (on here))))))
 
   shortened-answered : (a z k : ℕ) → Answered (refusalsOf (shortens a z k)) sp w (shortened sp a z k w)
-  unfolding shortened shortenedAt
+  unfolding resized newSize
   shortened-answered a z k =
-      naming-answered _ a z (shortenedAt sp a z k w) here (λ e. on here) numbers
-      (λ i x. refusing-answered _ (on (on (on here))) (settled-answered _ (on (on (on (on here))))))
-    where
-      numbers : (why : NotFound) → List·Memᴰ (notFoundNumber why) (refusalsOf (shortens a z k))
-      numbers NotLive = on (on here)
+      naming-answered _ a z (resizedAt sp a z Shorter k w) here (λ e. on here) (on (on here))
+      (λ i x. shorter-answered a z k (remainsb (sp .page) (classOf (x .status)) z k) (on (on (on here))) (on (on (on (on here)))))
 
 calls-answered : (c : Call) (sp : Space) (w : List ℕ) → Answered (refusalsOf c) (handedBack c sp) w (called c sp w)
 unfolding called
@@ -151,8 +157,8 @@ nowhere-calls : (c : Call) (w : List ℕ) → OnSpace c → called c nowhere w .
 unfolding called
 nowhere-calls c w (allocating {t = t} {s = s}) = ap (λ (p : Placed). p .outcome .refusal) (allocated-unsound nowhere t s w (nowhere-unsound w))
 nowhere-calls c w (releasing {a = a} {z = z}) = nowhere-naming w _ a z _ _ (released-naming nowhere a z w)
-nowhere-calls c w (extending {a = a} {z = z} {m = m}) = nowhere-naming w _ a z _ _ (extended-naming nowhere a z m w)
-nowhere-calls c w (shortening {a = a} {z = z} {k = k}) = nowhere-naming w _ a z _ _ (shortened-naming nowhere a z k w)
+nowhere-calls c w (extending {a = a} {z = z} {m = m}) = nowhere-naming w _ a z _ _ (resized-naming nowhere a z Longer m w refl)
+nowhere-calls c w (shortening {a = a} {z = z} {k = k}) = nowhere-naming w _ a z _ _ (resized-naming nowhere a z Shorter k w refl)
 
 -- ---- the address answer
 

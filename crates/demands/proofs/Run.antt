@@ -18,7 +18,7 @@ use Rattle.requests.specs.Requests.{classFor}
 use Rattle.room.specs.Room.{smallRoomb, largeRoomb, roomBehindb, growsBeyondb, remainsb}
 use Rattle.rules.specs.Editing.{insert, remove, resize}
 use Rattle.space.specs.Answers.{Outcome, refusing, settled}
-use Rattle.space.specs.Giving.{whenNamed, naming, releasedAt, released, extendedAt, extended, shortenedAt, shortened}
+use Rattle.space.specs.Giving.{namedIn, whenNamed, naming, releasedAt, released, newSize, resizedTo, resized}
 use Rattle.space.specs.Opening.{opened}
 use Rattle.space.specs.Placing.{placedAt, placed, allocated}
 use Rattle.table.specs.Fill.{lives, free, lo, hi, gap, fillFrom, fill, lastEnd, endOf}
@@ -48,7 +48,7 @@ unfolding down up statusOf entryAt entries words table
     roomIn fitsIn bestOf best largePlaceFor smallPlaceFor placeFor classFor namedb findLive
     smallRoomb largeRoomb roomBehindb growsBeyondb remainsb
     insert remove resize refusing settled placedAt placed allocated
-    whenNamed naming releasedAt released extendedAt extended shortenedAt shortened
+    namedIn whenNamed naming releasedAt released newSize resizedTo resized
     called ran answered played callsOf
 from-start = record { twelve = refl; after-five = refl; after-twelve = refl; exchanged = refl; exchanged-ends = refl }
 

@@ -18,11 +18,10 @@ use space::answers::Opened;
 use space::answers::address_of;
 use space::answers::allocate_number;
 use space::answers::count_of;
-use space::answers::extend_number;
 use space::answers::list_number;
 use space::answers::open_number;
 use space::answers::release_number;
-use space::answers::shorten_number;
+use space::answers::resize_number;
 
 // The words of a table that is lent anew.
 fn clear(table: &mut [u64]) {
@@ -93,14 +92,14 @@ fn ask(space: Space, call: Call, args: &[u64; TABLE_WORDS], table: &mut [u64]) -
             let r = space.extend(table, args[0], args[1], args[2]);
             let now = r.space;
             let answer = r.answer;
-            report::told(now, extend_number(answer));
+            report::told(now, resize_number(answer));
             now
         }
         _ => {
             let r = space.shorten(table, args[0], args[1], args[2]);
             let now = r.space;
             let answer = r.answer;
-            report::told(now, shorten_number(answer));
+            report::told(now, resize_number(answer));
             now
         }
     }

@@ -17,10 +17,9 @@ use pieces::Piece;
 use space::Space;
 use space::answers::address_of;
 use space::answers::allocate_number;
-use space::answers::extend_number;
 use space::answers::open_number;
 use space::answers::release_number;
-use space::answers::shorten_number;
+use space::answers::resize_number;
 
 pub const ENTRIES: usize = 32;
 
@@ -140,7 +139,7 @@ fn tell(space: Space, table: &mut [u64], call: Call) -> Told {
             let said = done.answer;
             Told {
                 space: now,
-                answer: answer::of_number(extend_number(said), Answer::Done),
+                answer: answer::of_number(resize_number(said), Answer::Done),
             }
         }
         Call::Shorten(address, size, by) => {
@@ -149,7 +148,7 @@ fn tell(space: Space, table: &mut [u64], call: Call) -> Told {
             let said = done.answer;
             Told {
                 space: now,
-                answer: answer::of_number(shorten_number(said), Answer::Done),
+                answer: answer::of_number(resize_number(said), Answer::Done),
             }
         }
     }

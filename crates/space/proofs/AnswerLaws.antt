@@ -1,6 +1,5 @@
 -- Laws of refusals, of soundness as the calls test it, and of a settled change.
 --
---   not-found-only                  the one reason that there is
 --   refusing-yes, refusing-no     a refusal that comes, and one that does not
 --   passed                        a call that is accepted, or refused with r, was not refused by a test in front of that
 --   sound-true, is-sound-true     what is sound passes the test, and the other way round; tested as the code asks it
@@ -21,19 +20,12 @@ use Rattle.settle.proofs.SettleLaws as settling
 use Rattle.settle.specs.Settle.{settledTable, settleSaid}
 use Rattle.settle.specs.declared.Settling.the-variants.{Done, TableFull}
 use Rattle.settle.specs.declared.Settling.{Settling}
-use Rattle.space.specs.Answers.{tableFull, notLive, notFoundNumber, SoundSpace, soundb, Outcome, refused, refusing, plain, stateOf, settled}
+use Rattle.space.specs.Answers.{tableFull, SoundSpace, soundb, Outcome, refused, refusing, plain, withEnd, stateOf, settled}
 use Rattle.space.specs.Halves.{outcomeOf}
 use Rattle.space.specs.declared.Space.{Space}
-use Rattle.space.specs.declared.answers.NotFound.the-variants.{NotLive}
-use Rattle.space.specs.declared.answers.NotFound.{NotFound}
 use Rattle.table.proofs.Theorems.{local-form}
 use Rattle.table.specs.Fill.{fill}
 use Rattle.table.specs.Sound.{capacity}
-
--- ---- the numbers
-
-pub not-found-only : (why : NotFound) → notLive ≡ notFoundNumber why
-not-found-only NotLive = refl
 
 -- ---- refusals
 
@@ -82,9 +74,10 @@ module _ (sp : Space) (w : List ℕ) (ps : List Piece) where
       (λ l. let q = e ∙ settling.settled-room (sp .page) w ps l in (λ i. outcomeOf sp (q i .answer) (q i .words)) ∙ sym (settled-room l))
       (λ l. let q = e ∙ settling.settled-full (sp .page) w ps l in (λ i. outcomeOf sp (q i .answer) (q i .words)) ∙ sym (settled-full l))
 
-  pub settled-done : {r : Settling} {v : List ℕ} {e n : ℕ} → r ≡ Done e n → settleSaid r v ≡ settledTable (sp .page) w ps
-      → outcomeOf sp (Done e n) v ≡ settled sp w ps
-  settled-done {r} {v} is h = ap (λ (x : Settling). outcomeOf sp x v) (sym is) ∙ settled-said r v h
+  pub settled-done : {r : Settling} {v : List ℕ} {e n : ℕ} {next : Space} → r ≡ Done e n → next ≡ withEnd sp e n
+      → settleSaid r v ≡ settledTable (sp .page) w ps → _≡_ {A = Outcome} (record { refusal = 0; state = next; words = v }) (settled sp w ps)
+  settled-done {r} {v} is ends h =
+      ap (λ (s : Space). record { refusal = 0; state = s; words = v }) ends ∙ (ap (λ (x : Settling). outcomeOf sp x v) (sym is) ∙ settled-said r v h)
 
   pub settled-not : {r : Settling} {v : List ℕ} → r ≡ TableFull → settleSaid r v ≡ settledTable (sp .page) w ps
       → refused tableFull sp v ≡ settled sp w ps

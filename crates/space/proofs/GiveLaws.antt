@@ -1,17 +1,18 @@
 -- Laws of release, extend and shorten, refusal by refusal: what each means where the code has come so far.
 --
---   naming-unsound, -zero, -asked, -not     the front of the three calls
---   released-naming, extended-naming, shortened-naming     each call is that front and what it does to the piece
---   released-found, extended-found, shortened-found        which is its half, of the piece that was found
+--   named-zero, named-asked                 the named entry, test by test
+--   naming-unsound, -sound, -not            the front of the three calls
+--   released-naming, resized-naming         each call is that front and what it does to the piece
+--   released-found, resized-found           which is its half, of the piece that was found
 --   found-in                                the entry of a named piece, in a sound table
---   removed-lives, resized-lives            the live pieces around it
 --   settle-fits, grow-fits, found-limit     the sums of a sound table stay within the limit
---   released-settled, extended-no-room, -beyond, -settled, shortened-too-far, -settled     what becomes of the piece that was found
---   longer-fits, shorter-fits               and the sums of its new size
+--   released-settled, resized-settled, kept-size     what becomes of the piece that was found
+--   longer-no-room, -beyond, -bytes, shorter-too-far, -bytes     its new size, test by test
+--   longer-fits, shorter-fits, new-size-fits         and the sums of that
 --
 -- Assumes nothing.
 use Prim.Native.Nat.{ℕ, _+_, _-_, _≤_, _<_}
-use mathlib.Core.Bool.{Bool, true, false, not, _||_}
+use mathlib.Core.Bool.{Bool, true, false, cond, not, _||_}
 use mathlib.Core.List.{List, [], _∷_, _++_}
 use mathlib.Core.Path.{_≡_, refl, sym, ap, _∙_, subst⁻¹}
 use native.Mathlib.Omega.{arith}
@@ -34,14 +35,21 @@ use Rattle.rules.proofs.SpliceLaws.{remove-at, resize-at}
 use Rattle.rules.specs.Editing.{names, remove, resize}
 use Rattle.settle.specs.Settle.{SettleFits}
 use Rattle.space.proofs.AnswerLaws.{refusing-yes, refusing-no, sound-true}
-use Rattle.space.specs.Answers.{notSound, zeroAsked, noRoomBehind, beyondLimit, tooLittleLeft, notFoundNumber}
+use Rattle.space.specs.Answers.{notSound, notNamedNumber, notResizedNumber}
 use Rattle.space.specs.Answers.{SoundSpace, soundb, entriesOf, livesOf, Outcome, refused, plain, settled}
-use Rattle.space.specs.Giving.{nameOf, namedAs, namedIn, whenNamed, naming, entriesBehind}
-use Rattle.space.specs.Giving.{releasedAt, released, extendedAt, extended, shortenedAt, shortened}
+use Rattle.space.specs.Giving.{nameOf, namedAs, namedIn, whenNamed, naming, releasedAt, released}
+use Rattle.space.specs.Giving.{entriesBehind, newSize, resizedTo, resizedAt, resized}
 use Rattle.space.specs.Halves.{FoundIn, livesAround}
 use Rattle.space.specs.declared.Space.{Space}
-use Rattle.space.specs.declared.answers.NotFound.{NotFound}
+use Rattle.space.specs.declared.answers.NotNamed.the-variants.{NoBytes}
+use Rattle.space.specs.declared.answers.NotNamed.{NotNamed}
+use Rattle.space.specs.declared.answers.NotResized.the-variants.{NoRoomBehind, BeyondLimit, TooLittleLeft}
+use Rattle.space.specs.declared.answers.NotResized.{NotResized}
 use Rattle.space.specs.declared.give.Named.the-variants.{At, Not}
+use Rattle.space.specs.declared.give.NewSize.the-variants.{Bytes, Kept}
+use Rattle.space.specs.declared.give.NewSize.{NewSize}
+use Rattle.space.specs.declared.give.Way.the-variants.{Longer, Shorter}
+use Rattle.space.specs.declared.give.Way.{Way}
 use Rattle.table.proofs.LivesLaws.{lives-append, lives-live}
 use Rattle.table.proofs.Theorems.{sound-good}
 use Rattle.table.proofs.TilingLaws.{ends-below, next-above}
@@ -49,13 +57,15 @@ use Rattle.table.specs.Fill.{lives, Good}
 
 -- ---- a named piece
 
-found-entry : (f : Found) (i : ℕ) (x : Piece) → At i x ≡ namedAs f → finding.At i x ≡ f
-found-entry (finding.At j y) i x e = let j-is : i ≡ j = cc in let y-is : x ≡ y = cc in rw (j-is, y-is)
-found-entry finding.Missing i x e = let z : _≡_ {A = ℕ} 0 1 = cc in absurd (omega arith)
+found-entry : (zero : Bool) (f : Found) (i : ℕ) (x : Piece) → At i x ≡ cond zero (Not NoBytes) (namedAs f) → finding.At i x ≡ f
+found-entry true f i x e = let z : _≡_ {A = ℕ} 0 1 = cc in absurd (omega arith)
+found-entry false (finding.At j y) i x e = let j-is : i ≡ j = cc in let y-is : x ≡ y = cc in rw (j-is, y-is)
+found-entry false finding.Missing i x e = let z : _≡_ {A = ℕ} 0 1 = cc in absurd (omega arith)
 
-module _ (sp : Space) (w : List ℕ) (a z : ℕ) (i : ℕ) (x : Piece) (named : At i x ≡ namedIn sp w a z) where
+module _ (sp : Space) (w : List ℕ) (zero : Bool) (a z : ℕ) (i : ℕ) (x : Piece) (named : At i x ≡ namedIn sp w zero a z) where
   pub found-named : FoundAt a z (entriesOf sp w) i x
-  found-named = found-at a z (entriesOf sp w) i x (found-entry (findLive a z 0 (entriesOf sp w)) i x named)
+  unfolding namedIn
+  found-named = found-at a z (entriesOf sp w) i x (found-entry zero (findLive a z 0 (entriesOf sp w)) i x named)
 
   -- the piece that was found is the one that was named
   same-piece : {A : Type 0} (f : ℕ → ℕ → A) → f (x .address) (x .size) ≡ f a z
@@ -73,57 +83,53 @@ module _ (sp : Space) (w : List ℕ) (a z : ℕ) (i : ℕ) (x : Piece) (named : 
 -- ---- the front
 
 module _ (sp : Space) (w : List ℕ) (zero : Bool) (a z : ℕ) where
+  pub named-zero : zero ≡ true → namedIn sp w zero a z ≡ Not NoBytes
+  unfolding namedIn
+  named-zero e = rw e
+
+  pub named-asked : zero ≡ false → (f : Found) → f ≡ findLive a z 0 (entriesOf sp w) → namedAs f ≡ namedIn sp w zero a z
+  unfolding namedIn
+  named-asked e f is = rw e (ap namedAs is)
+
   pub naming-unsound : (found : ℕ → Piece → Outcome) → soundb sp w ≡ false → naming sp w zero a z found ≡ refused notSound sp w
   unfolding naming
   naming-unsound found e = refusing-yes plain sp w _ notSound _ (ap not e)
 
-  pub naming-zero : (found : ℕ → Piece → Outcome) → SoundSpace sp w → zero ≡ true → naming sp w zero a z found ≡ refused zeroAsked sp w
+  pub naming-sound : (found : ℕ → Piece → Outcome) → SoundSpace sp w → naming sp w zero a z found ≡ whenNamed sp w found (namedIn sp w zero a z)
   unfolding naming
-  naming-zero found s e =
-      refusing-no plain sp w _ notSound _ (ap not (sound-true sp w s)) ∙ refusing-yes plain sp w _ zeroAsked _ e
+  naming-sound found s = refusing-no plain sp w _ notSound _ (ap not (sound-true sp w s))
 
-  pub naming-asked : (found : ℕ → Piece → Outcome) → SoundSpace sp w → zero ≡ false
-      → naming sp w zero a z found ≡ whenNamed sp w found (namedIn sp w a z)
-  unfolding naming
-  naming-asked found s e =
-      refusing-no plain sp w _ notSound _ (ap not (sound-true sp w s)) ∙ refusing-no plain sp w _ zeroAsked _ e
-
-  pub naming-not : (found : ℕ → Piece → Outcome) → SoundSpace sp w → zero ≡ false → (why : NotFound) → Not why ≡ namedIn sp w a z
-      → naming sp w zero a z found ≡ refused (notFoundNumber why) sp w
+  pub naming-not : (found : ℕ → Piece → Outcome) → SoundSpace sp w → (why : NotNamed) → Not why ≡ namedIn sp w zero a z
+      → naming sp w zero a z found ≡ refused (notNamedNumber why) sp w
   unfolding whenNamed
-  naming-not found s e why q = naming-asked found s e ∙ ap (whenNamed sp w found) (sym q)
+  naming-not found s why q = naming-sound found s ∙ ap (whenNamed sp w found) (sym q)
 
   -- what is done to the piece that was found, which goes by its own address and size
-  naming-found : (found : ℕ → ℕ → ℕ → Piece → Outcome) → SoundSpace sp w → zero ≡ false → (i : ℕ) (x : Piece)
-      → At i x ≡ namedIn sp w a z → naming sp w zero a z (found a z) ≡ found (x .address) (x .size) i x
+  naming-found : (found : ℕ → ℕ → ℕ → Piece → Outcome) → SoundSpace sp w → (i : ℕ) (x : Piece) → At i x ≡ namedIn sp w zero a z
+      → naming sp w zero a z (found a z) ≡ found (x .address) (x .size) i x
   unfolding whenNamed
-  naming-found found s e i x q =
-      naming-asked (found a z) s e
-      ∙ (ap (whenNamed sp w (found a z)) (sym q) ∙ sym (same-piece sp w a z i x q (λ u v. found u v i x)))
+  naming-found found s i x q =
+      naming-sound (found a z) s
+      ∙ (ap (whenNamed sp w (found a z)) (sym q) ∙ sym (same-piece sp w zero a z i x q (λ u v. found u v i x)))
 
 pub released-naming : (sp : Space) (a z : ℕ) (w : List ℕ) → released sp a z w ≡ naming sp w false a z (releasedAt sp a z w)
 unfolding released
 released-naming sp a z w = refl
 
-pub extended-naming : (sp : Space) (a z m : ℕ) (w : List ℕ) → extended sp a z m w ≡ naming sp w (eqb z 0 || eqb m 0) a z (extendedAt sp a z m w)
-unfolding extended
-extended-naming sp a z m w = refl
-
-pub shortened-naming : (sp : Space) (a z k : ℕ) (w : List ℕ)
-    → shortened sp a z k w ≡ naming sp w (eqb z 0 || eqb k 0) a z (shortenedAt sp a z k w)
-unfolding shortened
-shortened-naming sp a z k w = refl
+-- `zero` is what the code's test answered
+pub resized-naming : (sp : Space) (a z : ℕ) (way : Way) (m : ℕ) (w : List ℕ) {zero : Bool} → zero ≡ (eqb z 0 || eqb m 0)
+    → resized sp a z way m w ≡ naming sp w zero a z (resizedAt sp a z way m w)
+unfolding resized
+resized-naming sp a z way m w e = ap (λ (t : Bool). naming sp w t a z (resizedAt sp a z way m w)) (sym e)
 
 -- a piece that is named is found, and its half decides
-module _ (sp : Space) (a z : ℕ) (w : List ℕ) (s : SoundSpace sp w) (i : ℕ) (x : Piece) (named : At i x ≡ namedIn sp w a z) where
-  pub released-found : released sp a z w ≡ releasedAt sp (x .address) (x .size) w i x
-  released-found = released-naming sp a z w ∙ naming-found sp w false a z (λ u v. releasedAt sp u v w) s refl i x named
+module _ (sp : Space) (a z : ℕ) (w : List ℕ) (s : SoundSpace sp w) (i : ℕ) (x : Piece) where
+  pub released-found : At i x ≡ namedIn sp w false a z → released sp a z w ≡ releasedAt sp (x .address) (x .size) w i x
+  released-found named = released-naming sp a z w ∙ naming-found sp w false a z (λ u v. releasedAt sp u v w) s i x named
 
-  pub extended-found : (m : ℕ) → (eqb z 0 || eqb m 0) ≡ false → extended sp a z m w ≡ extendedAt sp (x .address) (x .size) m w i x
-  extended-found m some = extended-naming sp a z m w ∙ naming-found sp w _ a z (λ u v. extendedAt sp u v m w) s some i x named
-
-  pub shortened-found : (k : ℕ) → (eqb z 0 || eqb k 0) ≡ false → shortened sp a z k w ≡ shortenedAt sp (x .address) (x .size) k w i x
-  shortened-found k some = shortened-naming sp a z k w ∙ naming-found sp w _ a z (λ u v. shortenedAt sp u v k w) s some i x named
+  pub resized-found : (way : Way) (m : ℕ) {zero : Bool} → zero ≡ (eqb z 0 || eqb m 0) → At i x ≡ namedIn sp w zero a z
+      → resized sp a z way m w ≡ resizedAt sp (x .address) (x .size) way m w i x
+  resized-found way m e named = resized-naming sp a z way m w e ∙ naming-found sp w _ a z (λ u v. resizedAt sp u v way m w) s i x named
 
 -- ---- the piece that was found
 
@@ -162,7 +168,7 @@ module _ (sp : Space) (w : List ℕ) (i : ℕ) (x : Piece) (f : FoundIn sp w i x
       rw lives-parts
       (remove-at (sp .page) (page-pos (f .sound .ranges .page)) (nameOf (x .address) (x .size)) (lives (entries w 0 i)) x _ good-parts named)
 
-  pub resized-lives : (z : ℕ)
+  resized-lives : (z : ℕ)
       → resize (nameOf (x .address) (x .size)) z (livesOf sp w) ≡ livesAround sp w i (i + 1) (piece (x .address) z (x .status) ∷ [])
   unfolding rest
   resized-lives z =
@@ -177,38 +183,51 @@ module _ (sp : Space) (w : List ℕ) (i : ℕ) (x : Piece) (f : FoundIn sp w i x
   pub grow-fits : GrowFits (sp .page) (sp .limit) (behind x)
   grow-fits = record { page = f .sound .ranges .page; largest = f .sound .ranges .limit-largest; within = found-limit }
 
-  -- ---- refusal by refusal
+  -- ---- what becomes of it
 
   pub released-settled : releasedAt sp (x .address) (x .size) w i x ≡ settled sp w (livesAround sp w i (i + 1) [])
   unfolding releasedAt
   released-settled = ap (settled sp w) removed-lives
 
+  pub resized-settled : (n : ℕ)
+      → resizedTo sp (x .address) (x .size) w (Bytes n) ≡ settled sp w (livesAround sp w i (i + 1) (piece (x .address) n (x .status) ∷ []))
+  unfolding resizedTo
+  resized-settled n = ap (settled sp w) (resized-lives n)
+
+  pub kept-size : (n : NewSize) (why : NotResized) → Kept why ≡ n → resizedTo sp (x .address) (x .size) w n ≡ refused (notResizedNumber why) sp w
+  unfolding resizedTo
+  kept-size n why e = ap (resizedTo sp (x .address) (x .size) w) (sym e)
+
+  -- ---- the new size, of the way that the code has matched
+  pub new-size-way : (m : ℕ) {way way' : Way} → way ≡ way' → newSize sp (x .address) (x .size) way m w i x ≡ newSize sp (x .address) (x .size) way' m w i x
+  new-size-way m e = ap (λ (v : Way). newSize sp (x .address) (x .size) v m w i x) e
+
   -- r and g are what the code's tests answered, of the class k that it read
+
   module _ (m : ℕ) (k : Class) (is : k ≡ classOf (x .status)) (r : Bool)
       (room : r ≡ roomBehindb (sp .page) k (behind x) (x .size) m (entriesBehind sp w i)) where
-    pub extended-no-room : not r ≡ true → extendedAt sp (x .address) (x .size) m w i x ≡ refused noRoomBehind sp w
-    unfolding extendedAt
-    extended-no-room e = refusing-yes plain sp w _ noRoomBehind _ (ap not (rw is at (fails room e)))
+    pub longer-no-room : not r ≡ true → newSize sp (x .address) (x .size) Longer m w i x ≡ Kept NoRoomBehind
+    unfolding newSize
+    longer-no-room e = rw (ap not (rw is at (fails room e)))
 
-    module _ (has : not r ≡ false) (g : Bool) (grows : (v : List ℕ) → g ≡ growsBeyondb (sp .page) (sp .limit) (behind x) m (entriesBehind sp v i)) where
+    module _ (has : not r ≡ false) (g : Bool) (grows : g ≡ growsBeyondb (sp .page) (sp .limit) (behind x) m (entriesBehind sp w i)) where
       roomy : not (roomBehindb (sp .page) (classOf (x .status)) (behind x) (x .size) m (entriesBehind sp w i)) ≡ false
       roomy = ap not (rw is at (passes room has))
 
-      pub extended-beyond : g ≡ true → extendedAt sp (x .address) (x .size) m w i x ≡ refused beyondLimit sp w
-      unfolding extendedAt
-      extended-beyond e = refusing-no plain sp w _ noRoomBehind _ roomy ∙ refusing-yes plain sp w _ beyondLimit _ (sym (grows w) ∙ e)
+      pub longer-beyond : g ≡ true → newSize sp (x .address) (x .size) Longer m w i x ≡ Kept BeyondLimit
+      unfolding newSize
+      longer-beyond e = let beyond = sym grows ∙ e in rw (roomy, beyond)
 
-      pub extended-settled : g ≡ false
-          → extendedAt sp (x .address) (x .size) m w i x ≡ settled sp w (resize (nameOf (x .address) (x .size)) (x .size + m) (livesOf sp w))
-      unfolding extendedAt
-      extended-settled e = refusing-no plain sp w _ noRoomBehind _ roomy ∙ refusing-no plain sp w _ beyondLimit _ (sym (grows w) ∙ e)
+      pub longer-bytes : g ≡ false → newSize sp (x .address) (x .size) Longer m w i x ≡ Bytes (x .size + m)
+      unfolding newSize
+      longer-bytes e = let within = sym grows ∙ e in rw (roomy, within)
 
       -- the longer piece ends within the limit
       pub longer-fits : g ≡ false → behind x + m ≤ sp .limit
       longer-fits e =
           split (sp .count) (i + 1)
           (λ l. limit-kept (sp .page) (sp .limit) (behind x) m (page-pos (f .sound .ranges .page))
-          (sym (grows-last (sp .page) (sp .limit) (behind x) m w (i + 1) (sp .count) l) ∙ (sym (grows w) ∙ e)))
+          (sym (grows-last (sp .page) (sp .limit) (behind x) m w (i + 1) (sp .count) l) ∙ (sym grows ∙ e)))
           (λ l.
           let t = f .sound .rules .tiling in
           let first = room-next (sp .page) k (behind x) (x .size) m w (i + 1) (sp .count) l (entryAt w (i + 1)) refl in
@@ -216,14 +235,30 @@ module _ (sp : Space) (w : List ℕ) (i : ℕ) (x : Piece) (f : FoundIn sp w i x
           omega (arith, ap behind found-is, next-above w t i l, ends-below w t (i + 1) l, f .sound .ranges .end-limit))
 
   module _ (m : ℕ) (k : Class) (is : k ≡ classOf (x .status)) (r : Bool) (left : r ≡ remainsb (sp .page) k (x .size) m) where
-    pub shortened-too-far : not r ≡ true → shortenedAt sp (x .address) (x .size) m w i x ≡ refused tooLittleLeft sp w
-    unfolding shortenedAt
-    shortened-too-far e = refusing-yes plain sp w _ tooLittleLeft _ (ap not (rw is at (fails left e)))
+    pub shorter-too-far : not r ≡ true → newSize sp (x .address) (x .size) Shorter m w i x ≡ Kept TooLittleLeft
+    unfolding newSize
+    shorter-too-far e = rw (ap not (rw is at (fails left e)))
 
-    pub shortened-settled : not r ≡ false
-        → shortenedAt sp (x .address) (x .size) m w i x ≡ settled sp w (resize (nameOf (x .address) (x .size)) (x .size - m) (livesOf sp w))
-    unfolding shortenedAt
-    shortened-settled e = refusing-no plain sp w _ tooLittleLeft _ (ap not (rw is at (passes left e)))
+    pub shorter-bytes : not r ≡ false → newSize sp (x .address) (x .size) Shorter m w i x ≡ Bytes (x .size - m)
+    unfolding newSize
+    shorter-bytes e = rw (ap not (rw is at (passes left e)))
 
     pub shorter-fits : not r ≡ false → m ≤ x .size
     shorter-fits e = remains-some (sp .page) k (x .size) m (passes left e)
+
+  -- a piece of its new size ends within the limit
+  pub new-size-fits : (way : Way) (m n : ℕ) → Bytes n ≡ newSize sp (x .address) (x .size) way m w i x → x .address + n ≤ sp .limit
+  unfolding newSize
+  new-size-fits Longer m n e = go _ refl _ refl e
+    where
+      go : (r : Bool) → r ≡ roomBehindb (sp .page) (classOf (x .status)) (behind x) (x .size) m (entriesBehind sp w i)
+          → (g : Bool) → g ≡ growsBeyondb (sp .page) (sp .limit) (behind x) m (entriesBehind sp w i)
+          → Bytes n ≡ cond (not r) (Kept NoRoomBehind) (cond g (Kept BeyondLimit) (Bytes (x .size + m))) → x .address + n ≤ sp .limit
+      go false room g grows q = let z : _≡_ {A = ℕ} 0 1 = cc in absurd (omega arith)
+      go true room true grows q = let z : _≡_ {A = ℕ} 0 1 = cc in absurd (omega arith)
+      go true room false grows q = let n-is : n ≡ x .size + m = cc in omega (arith, longer-fits m _ refl true room refl false grows refl)
+  new-size-fits Shorter m n e = go (remainsb (sp .page) (classOf (x .status)) (x .size) m) e
+    where
+      go : (r : Bool) → Bytes n ≡ cond (not r) (Kept TooLittleLeft) (Bytes (x .size - m)) → x .address + n ≤ sp .limit
+      go false q = let z : _≡_ {A = ℕ} 0 1 = cc in absurd (omega arith)
+      go true q = let n-is : n ≡ x .size - m = cc in omega (arith, found-limit)

@@ -2,13 +2,15 @@
 --
 --   outOfRange .. sliceTooShort     the numbered refusals that calls on a space can give; success is 0
 --   noAddress                       the address answer of a refused call
---   openNumber, allocateNumber, ..  the number of each case of each call's answer; notFoundNumber of each reason why no piece is named
+--   openNumber, allocateNumber, ..  the number of each case of each call's answer; notNamedNumber, notResizedNumber of each reason why a piece is
+--                                   not named, or keeps its size
 --   addressOf, countOf              the address answer, the count answer, of each case
 --
 --   SoundSpace sp w         state and table are sound together
 --   soundb sp w             the test of it, as `table` makes it
 --   entriesOf sp w          the entries of the table
 --   livesOf sp w            its live pieces
+--   withEnd sp e n          the state with another end and count
 --   Outcome                 what a call leaves: its refusal number (0 if accepted), the state, and every word of the lent table
 --   refused k sp w          refused with k: the state and every word as they came
 --   refusing form sp w t k o  refused with k if t holds, and else o; `form` says how an outcome stands in what the call leaves, `plain` as it is
@@ -28,17 +30,17 @@ use Rattle.table.specs.Local.{localb}
 use Rattle.space.specs.declared.Space.{Space}
 use Rattle.space.specs.declared.answers.OpenAnswer.{OpenAnswer}
 use Rattle.space.specs.declared.answers.AllocateAnswer.{AllocateAnswer}
-use Rattle.space.specs.declared.answers.NotFound.{NotFound}
+use Rattle.space.specs.declared.answers.NotNamed.{NotNamed}
 use Rattle.space.specs.declared.answers.ReleaseAnswer.{ReleaseAnswer}
-use Rattle.space.specs.declared.answers.ExtendAnswer.{ExtendAnswer}
-use Rattle.space.specs.declared.answers.ShortenAnswer.{ShortenAnswer}
+use Rattle.space.specs.declared.answers.NotResized.{NotResized}
+use Rattle.space.specs.declared.answers.ResizeAnswer.{ResizeAnswer}
 use Rattle.space.specs.declared.answers.ListAnswer.{ListAnswer}
 use Rattle.space.specs.declared.answers.OpenAnswer.the-variants as opening
 use Rattle.space.specs.declared.answers.AllocateAnswer.the-variants as allocating
-use Rattle.space.specs.declared.answers.NotFound.the-variants as missing
+use Rattle.space.specs.declared.answers.NotNamed.the-variants as unnamed
 use Rattle.space.specs.declared.answers.ReleaseAnswer.the-variants as releasing
-use Rattle.space.specs.declared.answers.ExtendAnswer.the-variants as extending
-use Rattle.space.specs.declared.answers.ShortenAnswer.the-variants as shortening
+use Rattle.space.specs.declared.answers.NotResized.the-variants as unsized
+use Rattle.space.specs.declared.answers.ResizeAnswer.the-variants as resizing
 use Rattle.space.specs.declared.answers.ListAnswer.the-variants as listing
 
 -- ---- the numbers
@@ -98,31 +100,27 @@ addressOf allocating.NoBytes = noAddress
 addressOf allocating.BeyondLimit = noAddress
 addressOf allocating.TableFull = noAddress
 
-abbrev pub notFoundNumber : NotFound → ℕ
-notFoundNumber missing.NotLive = notLive
+abbrev pub notNamedNumber : NotNamed → ℕ
+notNamedNumber unnamed.NoBytes = zeroAsked
+notNamedNumber unnamed.NotLive = notLive
 
 abbrev pub releaseNumber : ReleaseAnswer → ℕ
 releaseNumber releasing.Done = 0
 releaseNumber releasing.NotSound = notSound
-releaseNumber (releasing.NotFound why) = notFoundNumber why
+releaseNumber (releasing.NotNamed why) = notNamedNumber why
 releaseNumber releasing.TableFull = tableFull
 
-abbrev pub extendNumber : ExtendAnswer → ℕ
-extendNumber extending.Done = 0
-extendNumber extending.NotSound = notSound
-extendNumber extending.NoBytes = zeroAsked
-extendNumber (extending.NotFound why) = notFoundNumber why
-extendNumber extending.NoRoomBehind = noRoomBehind
-extendNumber extending.BeyondLimit = beyondLimit
-extendNumber extending.TableFull = tableFull
+abbrev pub notResizedNumber : NotResized → ℕ
+notResizedNumber unsized.NoRoomBehind = noRoomBehind
+notResizedNumber unsized.BeyondLimit = beyondLimit
+notResizedNumber unsized.TooLittleLeft = tooLittleLeft
 
-abbrev pub shortenNumber : ShortenAnswer → ℕ
-shortenNumber shortening.Done = 0
-shortenNumber shortening.NotSound = notSound
-shortenNumber shortening.NoBytes = zeroAsked
-shortenNumber (shortening.NotFound why) = notFoundNumber why
-shortenNumber shortening.TooLittleLeft = tooLittleLeft
-shortenNumber shortening.TableFull = tableFull
+abbrev pub resizeNumber : ResizeAnswer → ℕ
+resizeNumber resizing.Done = 0
+resizeNumber resizing.NotSound = notSound
+resizeNumber (resizing.NotNamed why) = notNamedNumber why
+resizeNumber (resizing.NotResized why) = notResizedNumber why
+resizeNumber resizing.TableFull = tableFull
 
 abbrev pub listNumber : ListAnswer → ℕ
 listNumber (listing.Sections k) = 0
@@ -150,6 +148,9 @@ entriesOf sp w = entries w 0 (sp .count)
 abbrev pub livesOf : Space → List ℕ → List Piece
 livesOf sp w = lives (entriesOf sp w)
 
+abbrev pub withEnd : Space → ℕ → ℕ → Space
+withEnd sp e n = record { page = sp .page; limit = sp .limit; end = e; count = n }
+
 pub record Outcome : Type 0 where
   pub refusal : ℕ
   pub state : Space
@@ -165,8 +166,7 @@ abbrev pub plain : Outcome → Outcome
 plain o = o
 
 abbrev pub stateOf : Space → List Piece → Space
-stateOf sp ps =
-    record { page = sp .page; limit = sp .limit; end = endOf (sp .page) ps; count = length (fill (sp .page) ps) }
+stateOf sp ps = withEnd sp (endOf (sp .page) ps) (length (fill (sp .page) ps))
 
 unfoldable pub settled : Space → List ℕ → List Piece → Outcome
 settled sp w ps =

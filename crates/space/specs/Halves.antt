@@ -18,7 +18,7 @@ use Rattle.pieces.specs.declared.Piece.{Piece}
 use Rattle.rules.specs.Between.{livesWith}
 use Rattle.settle.specs.declared.Settling.{Settling}
 use Rattle.settle.specs.declared.Settling.the-variants.{Done, TableFull}
-use Rattle.space.specs.Answers.{tableFull, SoundSpace, entriesOf, Outcome, refused}
+use Rattle.space.specs.Answers.{tableFull, SoundSpace, entriesOf, withEnd, Outcome, refused}
 use Rattle.space.specs.declared.Space.{Space}
 
 abbrev pub livesAround : Space → List ℕ → ℕ → ℕ → List Piece → List Piece
@@ -37,5 +37,5 @@ pub record PlaceFits (sp : Space) (k : Class) (s : ℕ) (w : List ℕ) (q : Plac
   pub small : Small k → s < sp .page
 
 abbrev pub outcomeOf : Space → Settling → List ℕ → Outcome
-outcomeOf sp (Done e n) v = record { refusal = 0; state = record { page = sp .page; limit = sp .limit; end = e; count = n }; words = v }
+outcomeOf sp (Done e n) v = record { refusal = 0; state = withEnd sp e n; words = v }
 outcomeOf sp TableFull v = refused tableFull sp v

@@ -1,7 +1,8 @@
 -- What a call said and left, in document 01's numbers: the answer's number and values, the state, and every lent word. Each contract is an
 -- equation of this with the call's meaning.
 --
---   openSaid r w .. shortenSaid r w     refusal number, state, and the words w of the table as the call returns
+--   openSaid r w .. shortenSaid r w     refusal number, state, and the words w of the table as the call returns; an extend and a shorten say it
+--                                       alike, as `resizeSaid`
 --   allocateSaid r w                    the same with the address answer
 --   listSaid r v                        refusal number, count, state, and the words v of the list slice
 --
@@ -11,10 +12,9 @@ use Prim.Native.Nat.{ℕ}
 use Rattle.space.specs.declared.answers.Opened.{Opened}
 use Rattle.space.specs.declared.answers.Allocated.{Allocated}
 use Rattle.space.specs.declared.answers.Released.{Released}
-use Rattle.space.specs.declared.answers.Extended.{Extended}
-use Rattle.space.specs.declared.answers.Shortened.{Shortened}
+use Rattle.space.specs.declared.answers.Resized.{Resized}
 use Rattle.space.specs.declared.answers.Listed.{Listed}
-use Rattle.space.specs.Answers.{openNumber, allocateNumber, addressOf, releaseNumber, extendNumber, shortenNumber, listNumber, countOf, Outcome}
+use Rattle.space.specs.Answers.{openNumber, allocateNumber, addressOf, releaseNumber, resizeNumber, listNumber, countOf, Outcome}
 use Rattle.space.specs.Placing.{Placed}
 use Rattle.space.specs.Listing.{ListOutcome}
 
@@ -31,11 +31,14 @@ allocateSaid r w =
 abbrev pub releaseSaid : Released → List ℕ → Outcome
 releaseSaid r w = record { refusal = releaseNumber (r .answer); state = r .space; words = w }
 
-abbrev pub extendSaid : Extended → List ℕ → Outcome
-extendSaid r w = record { refusal = extendNumber (r .answer); state = r .space; words = w }
+abbrev pub resizeSaid : Resized → List ℕ → Outcome
+resizeSaid r w = record { refusal = resizeNumber (r .answer); state = r .space; words = w }
 
-abbrev pub shortenSaid : Shortened → List ℕ → Outcome
-shortenSaid r w = record { refusal = shortenNumber (r .answer); state = r .space; words = w }
+abbrev pub extendSaid : Resized → List ℕ → Outcome
+extendSaid r w = resizeSaid r w
+
+abbrev pub shortenSaid : Resized → List ℕ → Outcome
+shortenSaid r w = resizeSaid r w
 
 abbrev pub listSaid : Listed → List ℕ → ListOutcome
 listSaid r v = record { refusal = listNumber (r .answer); count = countOf (r .answer); state = r .space; words = v }

@@ -1,7 +1,7 @@
 // What the calls answer: one case for each refusal that a call can give, and document 01's number for each case.
 ghost use mathlib.Core.Path.{_≡_};
 ghost use Rattle.space.specs.Answers.{openNumber, allocateNumber, addressOf, listNumber, countOf};
-ghost use Rattle.space.specs.Answers.{notFoundNumber, releaseNumber, extendNumber, shortenNumber};
+ghost use Rattle.space.specs.Answers.{notNamedNumber, releaseNumber, notResizedNumber, resizeNumber};
 use crate::Space;
 
 pub enum OpenAnswer {
@@ -18,34 +18,32 @@ pub enum AllocateAnswer {
     TableFull,
 }
 
-// Why a call that names a piece by address and size finds none. A request that tells more reasons apart adds its cases here.
-pub enum NotFound {
+// Why a call that names a piece by address and size goes no further. A request that tells more reasons apart adds its cases here.
+pub enum NotNamed {
+    NoBytes,
     NotLive,
 }
 
 pub enum ReleaseAnswer {
     Done,
     NotSound,
-    NotFound(NotFound),
+    NotNamed(NotNamed),
     TableFull,
 }
 
-pub enum ExtendAnswer {
-    Done,
-    NotSound,
-    NoBytes,
-    NotFound(NotFound),
+// Why a named piece keeps its size: the first two are an extend's, the third is a shorten's.
+pub enum NotResized {
     NoRoomBehind,
     BeyondLimit,
-    TableFull,
+    TooLittleLeft,
 }
 
-pub enum ShortenAnswer {
+// Of an extend and of a shorten.
+pub enum ResizeAnswer {
     Done,
     NotSound,
-    NoBytes,
-    NotFound(NotFound),
-    TooLittleLeft,
+    NotNamed(NotNamed),
+    NotResized(NotResized),
     TableFull,
 }
 
@@ -72,14 +70,9 @@ pub struct Released {
     pub answer: ReleaseAnswer,
 }
 
-pub struct Extended {
+pub struct Resized {
     pub space: Space,
-    pub answer: ExtendAnswer,
-}
-
-pub struct Shortened {
-    pub space: Space,
-    pub answer: ShortenAnswer,
+    pub answer: ResizeAnswer,
 }
 
 pub struct Listed {
@@ -148,11 +141,12 @@ pub fn address_of(answer: AllocateAnswer) -> u64
     }
 }
 
-pub fn not_found_number(why: NotFound) -> u64
-    ensures { λ r. ⌜ r ≡ notFoundNumber why ⌝ }
+pub fn not_named_number(why: NotNamed) -> u64
+    ensures { λ r. ⌜ r ≡ notNamedNumber why ⌝ }
 {
     match why {
-        NotFound::NotLive => NOT_LIVE,
+        NotNamed::NoBytes => ZERO_ASKED,
+        NotNamed::NotLive => NOT_LIVE,
     }
 }
 
@@ -162,35 +156,30 @@ pub fn release_number(answer: ReleaseAnswer) -> u64
     match answer {
         ReleaseAnswer::Done => DONE,
         ReleaseAnswer::NotSound => NOT_SOUND,
-        ReleaseAnswer::NotFound(why) => not_found_number(why),
+        ReleaseAnswer::NotNamed(why) => not_named_number(why),
         ReleaseAnswer::TableFull => TABLE_FULL,
     }
 }
 
-pub fn extend_number(answer: ExtendAnswer) -> u64
-    ensures { λ r. ⌜ r ≡ extendNumber answer ⌝ }
+pub fn not_resized_number(why: NotResized) -> u64
+    ensures { λ r. ⌜ r ≡ notResizedNumber why ⌝ }
 {
-    match answer {
-        ExtendAnswer::Done => DONE,
-        ExtendAnswer::NotSound => NOT_SOUND,
-        ExtendAnswer::NoBytes => ZERO_ASKED,
-        ExtendAnswer::NotFound(why) => not_found_number(why),
-        ExtendAnswer::NoRoomBehind => NO_ROOM_BEHIND,
-        ExtendAnswer::BeyondLimit => BEYOND_LIMIT,
-        ExtendAnswer::TableFull => TABLE_FULL,
+    match why {
+        NotResized::NoRoomBehind => NO_ROOM_BEHIND,
+        NotResized::BeyondLimit => BEYOND_LIMIT,
+        NotResized::TooLittleLeft => TOO_LITTLE_LEFT,
     }
 }
 
-pub fn shorten_number(answer: ShortenAnswer) -> u64
-    ensures { λ r. ⌜ r ≡ shortenNumber answer ⌝ }
+pub fn resize_number(answer: ResizeAnswer) -> u64
+    ensures { λ r. ⌜ r ≡ resizeNumber answer ⌝ }
 {
     match answer {
-        ShortenAnswer::Done => DONE,
-        ShortenAnswer::NotSound => NOT_SOUND,
-        ShortenAnswer::NoBytes => ZERO_ASKED,
-        ShortenAnswer::NotFound(why) => not_found_number(why),
-        ShortenAnswer::TooLittleLeft => TOO_LITTLE_LEFT,
-        ShortenAnswer::TableFull => TABLE_FULL,
+        ResizeAnswer::Done => DONE,
+        ResizeAnswer::NotSound => NOT_SOUND,
+        ResizeAnswer::NotNamed(why) => not_named_number(why),
+        ResizeAnswer::NotResized(why) => not_resized_number(why),
+        ResizeAnswer::TableFull => TABLE_FULL,
     }
 }
 

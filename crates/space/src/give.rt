@@ -1,19 +1,18 @@
 // Giving back, lengthening, shortening. Each names a live piece by its exact address and size.
 ghost use mathlib.Core.Path.{_≡_};
 ghost use Prim.Native.Nat.{_+_, _≤_};
-ghost use Rattle.settle.specs.Settle.{settleSaid, settledTable};
 ghost use Rattle.space.specs.Answers.{SoundSpace};
-ghost use Rattle.space.specs.Giving.{namedIn, resizedIn, releasedAt, extendedAt, shortenedAt, released, extended, shortened};
+ghost use Rattle.space.specs.Giving.{namedIn, releasedAt, released, newSize, resizedTo, resizedAt, resized, extended, shortened};
 ghost use Rattle.space.specs.Halves.{FoundIn};
-ghost use Rattle.space.specs.Said.{releaseSaid, extendSaid, shortenSaid};
+ghost use Rattle.space.specs.Said.{releaseSaid, resizeSaid, extendSaid, shortenSaid};
+ghost use Rattle.space.specs.declared.give.NewSize.the-variants.{Bytes};
 use crate::Space;
-use crate::answers::ExtendAnswer;
-use crate::answers::Extended;
-use crate::answers::NotFound;
+use crate::answers::NotNamed;
+use crate::answers::NotResized;
 use crate::answers::ReleaseAnswer;
 use crate::answers::Released;
-use crate::answers::ShortenAnswer;
-use crate::answers::Shortened;
+use crate::answers::ResizeAnswer;
+use crate::answers::Resized;
 use find::Found;
 use pieces::Piece;
 use settle::Settling;
@@ -21,35 +20,36 @@ use settle::Settling;
 // The entry of the named piece, or why there is none.
 pub enum Named {
     At(usize, Piece),
-    Not(NotFound),
+    Not(NotNamed),
+}
+
+// Which way a piece is resized.
+pub enum Way {
+    Longer,
+    Shorter,
+}
+
+// How many bytes a piece is to have, or why it keeps those it has.
+pub enum NewSize {
+    Bytes(u64),
+    Kept(NotResized),
 }
 
 impl Space {
-    // The front of the three calls: the live piece that is named, or its refusal.
-    fn named(self, table: &[u64], address: u64, size: u64) -> Named
+    // The front of the three calls, on a sound table: the live piece that is named, or the refusal. `zero` says that a size or change is 0,
+    // where the call has that refusal.
+    fn named(self, table: &[u64], zero: bool, address: u64, size: u64) -> Named
         requires { ⌜ SoundSpace self (now table) ⌝ }
-        ensures { λ r. ⌜ r ≡ namedIn self (now (table .entry)) address size ⌝ }
+        ensures { λ r. ⌜ r ≡ namedIn self (now (table .entry)) zero address size ⌝ }
     {
+        if zero {
+            return Named::Not(NotNamed::NoBytes);
+        }
         let n = self.count as usize;
         let Found::At(i, piece) = find::find(address, size, n, table) else {
-            return Named::Not(NotFound::NotLive);
+            return Named::Not(NotNamed::NotLive);
         };
         Named::At(i, piece)
-    }
-
-    // The found piece becomes so many bytes long.
-    fn resize(self, table: &mut [u64], i: usize, piece: Piece, size: u64) -> Settling
-        requires { ⌜ FoundIn self (now table) i piece × (piece .address + size ≤ self .limit) ⌝ }
-        ensures { λ r. ⌜ settleSaid r (now (table .exit)) ≡ settledTable (self .page) (now (table .entry)) (resizedIn self (now (table .entry)) piece size) ⌝ }
-    {
-        let n = self.count as usize;
-        let status = piece.status;
-        let resized = Piece {
-            address: piece.address,
-            size,
-            status,
-        };
-        settle::with(self.page, self.end, n, i, i + 1, resized, table)
     }
 
     // ---- release
@@ -70,11 +70,11 @@ impl Space {
         requires { ⌜ SoundSpace self (now table) ⌝ }
         ensures { λ r. ⌜ releaseSaid r (now (table .exit)) ≡ released self address size (now (table .entry)) ⌝ }
     {
-        match self.named(table, address, size) {
+        match self.named(table, false, address, size) {
             Named::At(i, piece) => self.release_found(table, i, piece),
             Named::Not(why) => Released {
                 space: self,
-                answer: ReleaseAnswer::NotFound(why),
+                answer: ReleaseAnswer::NotNamed(why),
             },
         }
     }
@@ -86,12 +86,7 @@ impl Space {
         let n = self.count as usize;
         match settle::without(self.page, self.end, n, i, i + 1, table) {
             Settling::Done(end, count) => Released {
-                space: Space {
-                    page: self.page,
-                    limit: self.limit,
-                    end,
-                    count,
-                },
+                space: self.ending(end, count),
                 answer: ReleaseAnswer::Done,
             },
             Settling::TableFull => Released {
@@ -101,134 +96,115 @@ impl Space {
         }
     }
 
-    // ---- extend
+    // ---- extend and shorten
 
-    pub fn extend(self, table: &mut [u64], address: u64, size: u64, by: u64) -> Extended
+    pub fn extend(self, table: &mut [u64], address: u64, size: u64, by: u64) -> Resized
         ensures { λ r. ⌜ extendSaid r (now (table .exit)) ≡ extended self address size by (now (table .entry)) ⌝ }
     {
-        if !self.is_sound(table) {
-            return Extended {
-                space: self,
-                answer: ExtendAnswer::NotSound,
-            };
-        }
-        self.extend_sound(table, address, size, by)
+        self.resize(table, address, size, Way::Longer, by)
     }
 
-    pub fn extend_sound(self, table: &mut [u64], address: u64, size: u64, by: u64) -> Extended
-        requires { ⌜ SoundSpace self (now table) ⌝ }
-        ensures { λ r. ⌜ extendSaid r (now (table .exit)) ≡ extended self address size by (now (table .entry)) ⌝ }
+    pub fn shorten(self, table: &mut [u64], address: u64, size: u64, by: u64) -> Resized
+        ensures { λ r. ⌜ shortenSaid r (now (table .exit)) ≡ shortened self address size by (now (table .entry)) ⌝ }
     {
-        if requests::is_zero(size, by) {
-            return Extended {
+        self.resize(table, address, size, Way::Shorter, by)
+    }
+
+    fn resize(self, table: &mut [u64], address: u64, size: u64, way: Way, by: u64) -> Resized
+        ensures { λ r. ⌜ resizeSaid r (now (table .exit)) ≡ resized self address size way by (now (table .entry)) ⌝ }
+    {
+        if !self.is_sound(table) {
+            return Resized {
                 space: self,
-                answer: ExtendAnswer::NoBytes,
+                answer: ResizeAnswer::NotSound,
             };
         }
-        match self.named(table, address, size) {
-            Named::At(i, piece) => self.extend_found(table, i, piece, by),
-            Named::Not(why) => Extended {
+        self.resize_sound(table, address, size, way, by)
+    }
+
+    pub fn resize_sound(
+        self,
+        table: &mut [u64],
+        address: u64,
+        size: u64,
+        way: Way,
+        by: u64,
+    ) -> Resized
+        requires { ⌜ SoundSpace self (now table) ⌝ }
+        ensures { λ r. ⌜ resizeSaid r (now (table .exit)) ≡ resized self address size way by (now (table .entry)) ⌝ }
+    {
+        let zero = requests::is_zero(size, by);
+        match self.named(table, zero, address, size) {
+            Named::At(i, piece) => self.resize_found(table, i, piece, way, by),
+            Named::Not(why) => Resized {
                 space: self,
-                answer: ExtendAnswer::NotFound(why),
+                answer: ResizeAnswer::NotNamed(why),
             },
         }
     }
 
-    fn extend_found(self, table: &mut [u64], i: usize, piece: Piece, by: u64) -> Extended
+    // The found piece becomes so many bytes longer or shorter.
+    fn resize_found(self, table: &mut [u64], i: usize, piece: Piece, way: Way, by: u64) -> Resized
         requires { ⌜ FoundIn self (now table) i piece ⌝ }
-        ensures { λ r. ⌜ extendSaid r (now (table .exit)) ≡ extendedAt self (piece .address) (piece .size) by (now (table .entry)) i piece ⌝ }
+        ensures { λ r. ⌜ resizeSaid r (now (table .exit)) ≡ resizedAt self (piece .address) (piece .size) way by (now (table .entry)) i piece ⌝ }
+    {
+        match self.new_size(table, i, piece, way, by) {
+            NewSize::Bytes(size) => self.resize_to(table, i, piece, size),
+            NewSize::Kept(why) => Resized {
+                space: self,
+                answer: ResizeAnswer::NotResized(why),
+            },
+        }
+    }
+
+    // Decides, and changes nothing: the piece's new size, or why it keeps its own.
+    fn new_size(self, table: &[u64], i: usize, piece: Piece, way: Way, by: u64) -> NewSize
+        requires { ⌜ FoundIn self (now table) i piece ⌝ }
+        ensures { λ r. ⌜ r ≡ newSize self (piece .address) (piece .size) way by (now (table .entry)) i piece ⌝ }
+    {
+        let status = piece.status;
+        let class = pieces::class_of(status);
+        match way {
+            Way::Longer => {
+                let n = self.count as usize;
+                let e = piece.address + piece.size;
+                if !room::has_room(self.page, class, e, piece.size, by, i + 1, n, table) {
+                    return NewSize::Kept(NotResized::NoRoomBehind);
+                }
+                if room::grows_beyond(self.page, self.limit, e, by, i + 1, n) {
+                    return NewSize::Kept(NotResized::BeyondLimit);
+                }
+                NewSize::Bytes(piece.size + by)
+            }
+            Way::Shorter => {
+                if !room::remains(self.page, class, piece.size, by) {
+                    return NewSize::Kept(NotResized::TooLittleLeft);
+                }
+                NewSize::Bytes(piece.size - by)
+            }
+        }
+    }
+
+    // The found piece gets so many bytes, or the table is full.
+    fn resize_to(self, table: &mut [u64], i: usize, piece: Piece, size: u64) -> Resized
+        requires { ⌜ FoundIn self (now table) i piece × (piece .address + size ≤ self .limit) ⌝ }
+        ensures { λ r. ⌜ resizeSaid r (now (table .exit)) ≡ resizedTo self (piece .address) (piece .size) (now (table .entry)) (Bytes size) ⌝ }
     {
         let n = self.count as usize;
         let status = piece.status;
-        let class = pieces::class_of(status);
-        let e = piece.address + piece.size;
-        if !room::has_room(self.page, class, e, piece.size, by, i + 1, n, table) {
-            return Extended {
-                space: self,
-                answer: ExtendAnswer::NoRoomBehind,
-            };
-        }
-        if room::grows_beyond(self.page, self.limit, e, by, i + 1, n) {
-            return Extended {
-                space: self,
-                answer: ExtendAnswer::BeyondLimit,
-            };
-        }
-        match self.resize(table, i, piece, piece.size + by) {
-            Settling::Done(end, count) => Extended {
-                space: Space {
-                    page: self.page,
-                    limit: self.limit,
-                    end,
-                    count,
-                },
-                answer: ExtendAnswer::Done,
+        let resized = Piece {
+            address: piece.address,
+            size,
+            status,
+        };
+        match settle::with(self.page, self.end, n, i, i + 1, resized, table) {
+            Settling::Done(end, count) => Resized {
+                space: self.ending(end, count),
+                answer: ResizeAnswer::Done,
             },
-            Settling::TableFull => Extended {
+            Settling::TableFull => Resized {
                 space: self,
-                answer: ExtendAnswer::TableFull,
-            },
-        }
-    }
-
-    // ---- shorten
-
-    pub fn shorten(self, table: &mut [u64], address: u64, size: u64, by: u64) -> Shortened
-        ensures { λ r. ⌜ shortenSaid r (now (table .exit)) ≡ shortened self address size by (now (table .entry)) ⌝ }
-    {
-        if !self.is_sound(table) {
-            return Shortened {
-                space: self,
-                answer: ShortenAnswer::NotSound,
-            };
-        }
-        self.shorten_sound(table, address, size, by)
-    }
-
-    pub fn shorten_sound(self, table: &mut [u64], address: u64, size: u64, by: u64) -> Shortened
-        requires { ⌜ SoundSpace self (now table) ⌝ }
-        ensures { λ r. ⌜ shortenSaid r (now (table .exit)) ≡ shortened self address size by (now (table .entry)) ⌝ }
-    {
-        if requests::is_zero(size, by) {
-            return Shortened {
-                space: self,
-                answer: ShortenAnswer::NoBytes,
-            };
-        }
-        match self.named(table, address, size) {
-            Named::At(i, piece) => self.shorten_found(table, i, piece, by),
-            Named::Not(why) => Shortened {
-                space: self,
-                answer: ShortenAnswer::NotFound(why),
-            },
-        }
-    }
-
-    fn shorten_found(self, table: &mut [u64], i: usize, piece: Piece, by: u64) -> Shortened
-        requires { ⌜ FoundIn self (now table) i piece ⌝ }
-        ensures { λ r. ⌜ shortenSaid r (now (table .exit)) ≡ shortenedAt self (piece .address) (piece .size) by (now (table .entry)) i piece ⌝ }
-    {
-        let status = piece.status;
-        let class = pieces::class_of(status);
-        if !room::remains(self.page, class, piece.size, by) {
-            return Shortened {
-                space: self,
-                answer: ShortenAnswer::TooLittleLeft,
-            };
-        }
-        match self.resize(table, i, piece, piece.size - by) {
-            Settling::Done(end, count) => Shortened {
-                space: Space {
-                    page: self.page,
-                    limit: self.limit,
-                    end,
-                    count,
-                },
-                answer: ShortenAnswer::Done,
-            },
-            Settling::TableFull => Shortened {
-                space: self,
-                answer: ShortenAnswer::TableFull,
+                answer: ResizeAnswer::TableFull,
             },
         }
     }

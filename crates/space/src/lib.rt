@@ -10,7 +10,7 @@ pub mod open;
 pub mod place;
 
 ghost use mathlib.Core.Path.{_≡_};
-ghost use Rattle.space.specs.Answers.{soundb};
+ghost use Rattle.space.specs.Answers.{soundb, withEnd};
 
 // The state: page size, address limit, end of the allocated file, count of entries.
 pub struct Space {
@@ -26,5 +26,17 @@ impl Space {
         ensures { λ r. ⌜ r ≡ soundb self (now (table .entry)) ⌝ }
     {
         sound::is_sound(self.page, self.limit, self.end, self.count, table)
+    }
+
+    // The same page size and limit with another end and count.
+    fn ending(self, end: u64, count: u64) -> Space
+        ensures { λ r. ⌜ r ≡ withEnd self end count ⌝ }
+    {
+        Space {
+            page: self.page,
+            limit: self.limit,
+            end,
+            count,
+        }
     }
 }

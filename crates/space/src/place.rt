@@ -52,12 +52,7 @@ impl Space {
         };
         match settle::with(self.page, self.end, n, i, i, new, table) {
             Settling::Done(end, count) => Allocated {
-                space: Space {
-                    page: self.page,
-                    limit: self.limit,
-                    end,
-                    count,
-                },
+                space: self.ending(end, count),
                 answer: AllocateAnswer::At(b),
             },
             Settling::TableFull => Allocated {

@@ -33,6 +33,9 @@ with-requires c κs =
 enum-known-end : tie.Need-enum-known-end
 enum-known-end c = search needs
 
+ending-requires : tie.Need-ending-requires
+ending-requires c κs = search needs
+
 enum-told : tie.Need-enum-told
 enum-told c = search needs
 
@@ -41,12 +44,13 @@ same-length c = search needs
 
 returns-2 : tie.Need-returns-2
 returns-2 c =
-    let test = c .before .before .before .before .before .before .before .before .before in
+    let test = c .before .before .before .before .before .before .before .before .before .before in
     let within = sym (test .before .is-beyond .ensures) ∙ test .if1 .left in
-    let entry = c .before .before .before .before .before .before .before .before .entry-of .ensures in
-    let address = c .before .before .before .before .before .before .before .address-of .ensures in
+    let entry = c .before .before .before .before .before .before .before .before .before .entry-of .ensures in
+    let address = c .before .before .before .before .before .before .before .before .address-of .ensures in
     let settled = placed-settled _ _ _ _ _ (test .before .before .before .pre) within entry address in
-    placed-done _ (settled-done _ _ _ (c .before .end .given .1) (c .before .before .before .before .before .with .ensures)) ∙ sym settled
+    let done = settled-done _ _ _ (c .before .before .end .given .1) (c .ending .ensures) (c .before .before .before .before .before .before .with .ensures) in
+    placed-done _ done ∙ sym settled
 
 same-length-2 : tie.Need-same-length-2
 same-length-2 c = search needs
@@ -70,6 +74,7 @@ place-spec =
     address-of-requires
     with-requires
     enum-known-end
+    ending-requires
     enum-told
     same-length
     returns-2

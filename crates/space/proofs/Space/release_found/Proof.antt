@@ -4,7 +4,7 @@ use mathlib.Core.Path.{sym, _∙_}
 use native.Mathlib.Omega.{arith}
 use borrow.Author.Needs.{needs}
 use Rattle.space.proofs.AnswerLaws.{settled-done, settled-not}
-use Rattle.space.proofs.GiveLaws.{found-lt, released-settled}
+use Rattle.space.proofs.GiveLaws.{found-lt, settle-fits, released-settled}
 use Rattle.space.proofs.Space.release_found.Statement.{statement}
 use Rattle.space.proofs.Space.release_found.Tie as tie
 
@@ -12,14 +12,13 @@ add-without : tie.Need-add-without
 add-without c = omega (arith, found-lt _ _ _ _ (c .before .pre))
 
 without-requires : tie.Need-without-requires
-without-requires c κs =
-    let start = c .before .before in
-    let f = start .pre in
-    let among = found-lt _ _ _ _ f in
-    record { limit = start .args .self .limit; sound = f .sound; low = omega arith; high = omega (arith, among) }
+without-requires c κs = settle-fits _ _ _ _ (c .before .before .pre)
 
 enum-known-end : tie.Need-enum-known-end
 enum-known-end c = search needs
+
+ending-requires : tie.Need-ending-requires
+ending-requires c κs = search needs
 
 enum-told : tie.Need-enum-told
 enum-told c = search needs
@@ -29,10 +28,10 @@ same-length c = search needs
 
 returns : tie.Need-returns
 returns c =
-    let start = c .before .before .before .before .before .before .before .before in
+    let start = c .before .before .before .before .before .before .before .before .before in
     let a = start .args in
     let settled = released-settled (a .self) (a .table .now) (a .i) (a .piece) (start .pre) in
-    settled-done (a .self) (a .table .now) _ (c .before .end .given .1) (c .before .before .before .before .before .without .ensures) ∙ sym settled
+    settled-done (a .self) (a .table .now) _ (c .before .before .end .given .1) (c .ending .ensures) (c .before .before .before .before .before .before .without .ensures) ∙ sym settled
 
 same-length-2 : tie.Need-same-length-2
 same-length-2 c = search needs
@@ -51,6 +50,7 @@ release-found-spec =
     add-without
     without-requires
     enum-known-end
+    ending-requires
     enum-told
     same-length
     returns

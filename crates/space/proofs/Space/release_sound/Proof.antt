@@ -1,6 +1,6 @@
 -- `space::Space::release_sound` meets its contract: the front names the piece or its refusal.
 -- Assumes nothing.
-use mathlib.Core.Path.{refl, sym, _∙_}
+use mathlib.Core.Path.{sym, _∙_}
 use borrow.Author.Needs.{needs}
 use Rattle.space.proofs.GiveLaws.{found-in, naming-not, released-naming, released-found}
 use Rattle.space.proofs.Space.release_sound.Statement.{statement}
@@ -17,7 +17,7 @@ release-found-requires c κs =
     let start = c .before .before .before .before .before .before .before in
     let a = start .args in
     let named = sym (c .before .before .i .given .1) ∙ c .before .before .before .before .named .ensures in
-    found-in (a .self) (a .table .now) (a .address) (a .size) _ _ named (start .pre)
+    found-in (a .self) (a .table .now) _ (a .address) (a .size) _ _ named (start .pre)
 
 enum-known-why : tie.Need-enum-known-why
 enum-known-why c = search needs
@@ -42,7 +42,7 @@ returns-2 c =
     let a = start .args in
     let not-named = sym (c .before .why .given .1) ∙ c .before .before .before .named .ensures in
     let front = released-naming (a .self) (a .address) (a .size) (a .table .now) in
-    sym (front ∙ naming-not (a .self) (a .table .now) _ (a .address) (a .size) _ (start .pre) refl _ not-named)
+    sym (front ∙ naming-not (a .self) (a .table .now) _ (a .address) (a .size) _ (start .pre) _ not-named)
 
 pub release-sound-spec : {M : Type 1} → statement M
 release-sound-spec =

@@ -1,31 +1,38 @@
--- `space::Space::resize` meets its contract: the change is one for the live pieces with the piece at its new size.
+-- `space::Space::resize` meets its contract: refusal 2 is the law of a table that is not sound; of a sound one the half decides.
 -- Assumes nothing.
-use mathlib.Core.Path.{sym, ap, _∙_}
-use native.Mathlib.Omega.{arith}
+use mathlib.Core.Path.{refl, sym, _∙_}
 use borrow.Author.Needs.{needs}
-use Rattle.settle.specs.Settle.{settledTable}
-use Rattle.space.proofs.GiveLaws.{found-lt, settle-fits, resized-lives}
+use Rattle.pages.proofs.Numbers.{fails}
+use Rattle.space.proofs.AnswerLaws.{tested}
+use Rattle.space.proofs.GiveLaws.{naming-unsound, resized-naming}
 use Rattle.space.proofs.Space.resize.Statement.{statement}
 use Rattle.space.proofs.Space.resize.Tie as tie
 
-add-with : tie.Need-add-with
-add-with c = omega (arith, found-lt _ _ _ _ (c .before .pre .0))
-
-with-requires : tie.Need-with-requires
-with-requires c κs =
-    let h = c .before .before .pre in
-    let r = h .0 .sound .ranges in
-    (settle-fits _ _ _ _ (h .0), omega (arith, h .1, r .limit-largest, r .page .largest))
+is-sound-requires : tie.Need-is-sound-requires
+is-sound-requires c κs = search needs
 
 same-length : tie.Need-same-length
 same-length c = search needs
 
 returns : tie.Need-returns
 returns c =
-    let start = c .before .before .before .before .before in
-    let a = start .args in
-    let lives = resized-lives (a .self) (a .table .now) (a .i) (a .piece) (start .pre .0) (a .size) in
-    c .before .before .with .ensures ∙ ap (settledTable (a .self .page) (a .table .now)) (sym lives)
+    let a = c .before .before .before .before .args in
+    let unsound = fails (c .before .is-sound .ensures) (c .if1 .taken) in
+    let front = resized-naming (a .self) (a .address) (a .size) (a .way) (a .by) (a .table .now) refl in
+    sym (front ∙ naming-unsound (a .self) (a .table .now) _ (a .address) (a .size) _ unsound)
+
+resize-sound-requires : tie.Need-resize-sound-requires
+resize-sound-requires c κs =
+    let a = c .before .before .before .before .before .args in
+    tested (a .self) (a .table .now) (c .before .before .is-sound .ensures) (c .before .if1 .left)
+
+same-length-2 : tie.Need-same-length-2
+same-length-2 c = search needs
+
+returns-2 : tie.Need-returns-2
+returns-2 c = c .before .before .resize-sound .ensures
 
 pub resize-spec : {M : Type 1} → statement M
-resize-spec = tie.close (tie.spec add-with with-requires same-length returns)
+resize-spec =
+    tie.close
+    (tie.spec is-sound-requires same-length returns resize-sound-requires same-length-2 returns-2)
