@@ -23,7 +23,7 @@ use Rattle.accepted.specs.Places.{PlaceIs, in-section, at-the-end}
 use Rattle.choose.specs.Place.{placeFor, placeAddress}
 use Rattle.choose.specs.declared.place.Place.{Place}
 use Rattle.find.specs.Find.{FoundAt}
-use Rattle.pages.proofs.Numbers.{split, passes}
+use Rattle.pages.proofs.Numbers.{split}
 use Rattle.pages.proofs.PageLaws.{page-pos}
 use Rattle.pages.specs.Pages.{up}
 use Rattle.pieces.proofs.PieceLaws.{view}

@@ -96,8 +96,8 @@ module _ (sp : Space) (w : List ℕ) where
       let f = found-at a z (entriesOf sp w) i x (sym q) in
       passed-on (λ n. n (record { entry = x; among = entry-among (f .entry); named = f .named })) (h i x f)
 
-  abbrev NotNamed : ℕ → ℕ → Type 0
-  NotNamed a z = IsLive (entriesOf sp w) (nameOf a z) → ⊥
+  abbrev NoSuchPiece : ℕ → ℕ → Type 0
+  NoSuchPiece a z = IsLive (entriesOf sp w) (nameOf a z) → ⊥
 
   -- 2, and then what a sound table gives
   sound-row : (o : Outcome) (Rest : ℕ → Type 0) → (SoundSpace sp w → Rest (o .refusal))
@@ -109,20 +109,20 @@ module _ (sp : Space) (w : List ℕ) where
   -- the front of a release, which has no 4, and of the two calls that have it
   module _ (a z : ℕ) (found : ℕ → Piece → Outcome) (Rest : ℕ → Type 0)
       (h : SoundSpace sp w → (i : ℕ) (x : Piece) → FoundAt a z (entriesOf sp w) i x → Rest (found i x .refusal)) where
-    abbrev Named : ℕ → Type 0
-    Named r = Given r notLive (NotNamed a z) (Rest r)
+    abbrev NamedRow : ℕ → Type 0
+    NamedRow r = Given r notLive (NoSuchPiece a z) (Rest r)
 
-    naming-row : Given (naming sp w false a z found .refusal) notSound (SoundSpace sp w → ⊥) (Named (naming sp w false a z found .refusal))
+    naming-row : Given (naming sp w false a z found .refusal) notSound (SoundSpace sp w → ⊥) (NamedRow (naming sp w false a z found .refusal))
     unfolding naming namedIn refusing
-    naming-row = sound-row _ Named (λ s. found-row a z found Rest (h s) (findLive a z 0 (entriesOf sp w)) refl)
+    naming-row = sound-row _ NamedRow (λ s. found-row a z found Rest (h s) (findLive a z 0 (entriesOf sp w)) refl)
 
     asking-row : (m : ℕ)
         → Given (naming sp w (eqb z 0 || eqb m 0) a z found .refusal) notSound (SoundSpace sp w → ⊥)
-        (Given (naming sp w (eqb z 0 || eqb m 0) a z found .refusal) zeroAsked (ZeroAsked z m) (Named (naming sp w (eqb z 0 || eqb m 0) a z found .refusal)))
+        (Given (naming sp w (eqb z 0 || eqb m 0) a z found .refusal) zeroAsked (ZeroAsked z m) (NamedRow (naming sp w (eqb z 0 || eqb m 0) a z found .refusal)))
     unfolding naming namedIn whenNamed refusing
     asking-row m =
-        sound-row _ (λ r. Given r zeroAsked (ZeroAsked z m) (Named r))
-        (λ s. first (λ r. whenNamed sp w found r .refusal) zeroAsked (Not NoBytes) _ refl Named _ (zero-test z m) (test-zero z m)
+        sound-row _ (λ r. Given r zeroAsked (ZeroAsked z m) (NamedRow r))
+        (λ s. first (λ r. whenNamed sp w found r .refusal) zeroAsked (Not NoBytes) _ refl NamedRow _ (zero-test z m) (test-zero z m)
         (λ e. found-row a z found Rest (h s) (findLive a z 0 (entriesOf sp w)) refl))
 
 -- ---- an extend and a shorten, behind the name

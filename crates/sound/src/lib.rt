@@ -10,9 +10,7 @@ ghost use Rattle.pieces.specs.declared.Class.the-variants.{Large};
 ghost use Rattle.pieces.specs.declared.Status.the-variants.{Live};
 ghost use Rattle.pieces.specs.Words.{entryWords, entries};
 ghost use Rattle.table.specs.Local.{tableLengthb, rangesb, kindsb, zerosb, chainb, localb};
-use pieces::Class;
 use pieces::ENTRY_WORDS;
-use pieces::Status;
 
 pub const LARGEST_LIMIT: u64 = 4611686018427387904;
 

@@ -1,6 +1,6 @@
 -- `script::numbers::with_digit` meets its contract: the two tests find exactly the values that reach 2^64.
 -- Assumes nothing.
-use Prim.Native.Nat.{_≤_, _<_, _-_, _+_, _*_}
+use Prim.Native.Nat.{_≤_, _<_, _+_, _*_}
 use native.Mathlib.Omega.{arith}
 use borrow.Author.Needs.{needs}
 use borrow.Author.Tests.{lt-ltb, le-ltb}

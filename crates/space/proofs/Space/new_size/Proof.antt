@@ -1,6 +1,6 @@
 -- `space::Space::new_size` meets its contract: each way has its tests' laws, and the sums stay within the limit.
 -- Assumes nothing.
-use mathlib.Core.Path.{sym, ap, _∙_}
+use mathlib.Core.Path.{sym, _∙_}
 use native.Mathlib.Omega.{arith}
 use borrow.Author.Needs.{needs}
 use Rattle.pages.proofs.PageLaws.{page-pos}

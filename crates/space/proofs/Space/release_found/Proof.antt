@@ -31,7 +31,8 @@ returns c =
     let start = c .before .before .before .before .before .before .before .before .before in
     let a = start .args in
     let settled = released-settled (a .self) (a .table .now) (a .i) (a .piece) (start .pre) in
-    settled-done (a .self) (a .table .now) _ (c .before .before .end .given .1) (c .ending .ensures) (c .before .before .before .before .before .before .without .ensures) ∙ sym settled
+    let done = settled-done (a .self) (a .table .now) _ (c .before .before .end .given .1) (c .ending .ensures) in
+    done (c .before .before .before .before .before .before .without .ensures) ∙ sym settled
 
 same-length-2 : tie.Need-same-length-2
 same-length-2 c = search needs

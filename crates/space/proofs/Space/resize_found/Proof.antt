@@ -27,8 +27,9 @@ same-length c = search needs
 
 returns : tie.Need-returns
 returns c =
-    let a = c .before .before .before .before .before .before .before .before .before .before .args in
-    let bytes = sym (c .before .before .before .before .before .size .given .1) ∙ c .before .before .before .before .before .before .before .new-size .ensures in
+    let call = c .before .before .before .before .before .before .before in
+    let a = call .before .before .before .args in
+    let bytes = sym (c .before .before .before .before .before .size .given .1) ∙ call .new-size .ensures in
     c .before .before .resize-to .ensures ∙ ap (resizedTo (a .self) (a .piece .address) (a .piece .size) (a .table .now)) bytes
 
 same-length-2 : tie.Need-same-length-2

@@ -34,7 +34,8 @@ returns c =
     let start = c .before .before .before .before .before .before .before .before .before in
     let a = start .args in
     let settled = resized-settled (a .self) (a .table .now) (a .i) (a .piece) (start .pre .0) (a .size) in
-    settled-done (a .self) (a .table .now) _ (c .before .before .end .given .1) (c .ending .ensures) (c .before .before .before .before .before .before .with .ensures) ∙ sym settled
+    let done = settled-done (a .self) (a .table .now) _ (c .before .before .end .given .1) (c .ending .ensures) in
+    done (c .before .before .before .before .before .before .with .ensures) ∙ sym settled
 
 same-length-2 : tie.Need-same-length-2
 same-length-2 c = search needs

@@ -1,0 +1,22 @@
+-- `space::answers::not_named_number` meets its contract: each reason has its number.
+-- Assumes nothing.
+use mathlib.Core.Path.{sym, ap}
+use borrow.Author.Needs.{needs}
+use Rattle.space.specs.Answers.{notNamedNumber}
+use Rattle.space.proofs.answers.not_named_number.Statement.{statement}
+use Rattle.space.proofs.answers.not_named_number.Tie as tie
+
+enum-told : tie.Need-enum-told
+enum-told c = search needs
+
+enum-told-2 : tie.Need-enum-told-2
+enum-told-2 c = search needs
+
+returns : tie.Need-returns
+returns c = ap notNamedNumber (sym (c .enum-told .given .1))
+
+returns-2 : tie.Need-returns-2
+returns-2 c = ap notNamedNumber (sym (c .enum-told2 .given .1))
+
+pub not-named-number-spec : {M : Type 1} → statement M
+not-named-number-spec = tie.close (tie.spec enum-told enum-told-2 returns returns-2)
