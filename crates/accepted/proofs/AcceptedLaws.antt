@@ -32,27 +32,27 @@ use Rattle.pieces.specs.declared.Class.{Class}
 use Rattle.pieces.specs.declared.Piece.{Piece}
 use Rattle.pieces.specs.declared.Status.the-variants.{Live}
 use Rattle.pieces.specs.declared.Status.{Status}
+use Rattle.refusals.specs.AnswerNumbers.{notSound, unknownCode, zeroAsked, beyondLimit, tableFull, notNamedNumber}
+use Rattle.refusals.specs.declared.NotNamed.the-variants.{NoBytes, NotLive}
+use Rattle.refusals.specs.declared.NotNamed.{NotNamed}
+use Rattle.refusals.specs.declared.NotResized.the-variants.{NoRoomBehind, BeyondLimit, TooLittleLeft}
 use Rattle.requests.proofs.RequestLaws.{class-small}
 use Rattle.requests.specs.Requests.{classFor}
 use Rattle.room.specs.Room.{roomBehindb, growsBeyondb, remainsb}
 use Rattle.rules.proofs.ChangeLaws.{insert-good, resize-good}
 use Rattle.rules.proofs.RemoveLaws.{remove-good}
 use Rattle.rules.specs.Editing.{insert, remove, resize}
-use Rattle.space.proofs.AnswerLaws.{passed, settled-room}
 use Rattle.space.proofs.GiveLaws.{found-named}
-use Rattle.space.specs.Answers.{notSound, unknownCode, zeroAsked, beyondLimit, tableFull, notNamedNumber}
-use Rattle.space.specs.Answers.{SoundSpace, entriesOf, livesOf, Outcome, refusing, plain, stateOf, settled}
+use Rattle.space.proofs.OutcomeLaws.{passed, settled-room}
 use Rattle.space.specs.Giving.{nameOf, namedIn, whenNamed, naming, releasedAt, released, entriesBehind, newSize, resizedTo, resizedAt, resized}
+use Rattle.space.specs.Outcomes.{SoundSpace, entriesOf, livesOf, Outcome, refusing, plain, stateOf, settled}
 use Rattle.space.specs.Placing.{beyondb, Placed, unplaced, placedAt, placed, allocated}
 use Rattle.space.specs.declared.Space.{Space}
-use Rattle.space.specs.declared.answers.NotNamed.the-variants.{NoBytes, NotLive}
-use Rattle.space.specs.declared.answers.NotNamed.{NotNamed}
-use Rattle.space.specs.declared.answers.NotResized.the-variants.{NoRoomBehind, BeyondLimit, TooLittleLeft}
-use Rattle.space.specs.declared.give.Named.the-variants.{At, Not}
 use Rattle.space.specs.declared.give.Named.{Named}
+use Rattle.space.specs.declared.give.Named.the-variants.{At, Not}
 use Rattle.space.specs.declared.give.NewSize.the-variants.{Bytes, Kept}
-use Rattle.space.specs.declared.give.Way.the-variants as way
 use Rattle.space.specs.declared.give.Way.{Way}
+use Rattle.space.specs.declared.give.Way.the-variants as way
 use Rattle.table.proofs.ChainLaws.{chain-le}
 use Rattle.table.proofs.Theorems.{sound-chain, sound-good}
 use Rattle.table.specs.Fill.{fill, endOf, Good}

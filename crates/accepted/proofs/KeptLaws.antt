@@ -17,7 +17,7 @@ use Rattle.pages.specs.Pages.{Border}
 use Rattle.pieces.proofs.WordLaws.{length-entries, length-table, entries-of-table}
 use Rattle.pieces.specs.Words.{entryWords, table}
 use Rattle.pieces.specs.declared.Piece.{Piece}
-use Rattle.space.specs.Answers.{SoundSpace, entriesOf, stateOf}
+use Rattle.space.specs.Outcomes.{SoundSpace, entriesOf, stateOf}
 use Rattle.space.specs.declared.Space.{Space}
 use Rattle.table.proofs.Theorems.{determined, sound-table, fill-form, fill-lives}
 use Rattle.table.specs.Fill.{lives, lastEnd, fill, endOf, Good}

@@ -31,7 +31,7 @@ use Rattle.pieces.specs.declared.Status.the-variants.{Live, Free}
 use Rattle.pieces.specs.declared.Status.{Status}
 use Rattle.rules.proofs.ChangeLaws.{Room, less, last, more, further}
 use Rattle.pieces.proofs.WordLaws.{entry-is, drop-entries}
-use Rattle.space.specs.Answers.{SoundSpace, entriesOf}
+use Rattle.space.specs.Outcomes.{SoundSpace, entriesOf}
 use Rattle.room.specs.Room.{smallRoomb, largeRoomb, roomBehindb, remainsb}
 use Rattle.space.specs.Giving.{entriesBehind}
 use Rattle.space.specs.declared.Space.{Space}

@@ -34,7 +34,7 @@ use Rattle.pieces.specs.declared.Status.the-variants.{Free}
 use Rattle.pieces.specs.declared.Status.{Status}
 use Rattle.rules.proofs.ChangeLaws.{Fits, at-end, in-large, in-small, beyond}
 use Rattle.requests.proofs.RequestLaws.{class-metadata, class-raw}
-use Rattle.space.specs.Answers.{SoundSpace, entriesOf}
+use Rattle.space.specs.Outcomes.{SoundSpace, entriesOf}
 use Rattle.requests.specs.Requests.{metadataCode, classFor}
 use Rattle.space.specs.declared.Space.{Space}
 use Rattle.table.proofs.TilingLaws.{tiles-from}

@@ -20,10 +20,10 @@ use Rattle.pieces.specs.declared.Piece.{Piece}
 use Rattle.rules.proofs.CountLaws.{release-count}
 use Rattle.rules.proofs.RemoveLaws.{named-address, named-size}
 use Rattle.rules.specs.Editing.{Name, remove}
-use Rattle.space.proofs.AnswerLaws.{settled-room}
 use Rattle.space.proofs.GiveLaws.{released-naming, naming-sound}
-use Rattle.space.specs.Answers.{SoundSpace, entriesOf, livesOf, stateOf, settled}
+use Rattle.space.proofs.OutcomeLaws.{settled-room}
 use Rattle.space.specs.Giving.{namedAs, namedIn, whenNamed, releasedAt, released}
+use Rattle.space.specs.Outcomes.{SoundSpace, entriesOf, livesOf, stateOf, settled}
 use Rattle.space.specs.declared.Space.{Space}
 use Rattle.table.proofs.Theorems.{sound-good}
 use Rattle.table.specs.Fill.{fill}

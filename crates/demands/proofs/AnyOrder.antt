@@ -23,8 +23,8 @@ use Rattle.pieces.specs.Words.{table}
 use Rattle.pieces.specs.declared.Piece.{Piece}
 use Rattle.rules.proofs.RemoveLaws.{remove-swap}
 use Rattle.rules.specs.Editing.{Name, remove}
-use Rattle.space.specs.Answers.{SoundSpace, entriesOf, stateOf, Outcome}
 use Rattle.space.specs.Giving.{released}
+use Rattle.space.specs.Outcomes.{SoundSpace, entriesOf, stateOf, Outcome}
 use Rattle.space.specs.declared.Space.{Space}
 use Rattle.table.specs.Fill.{lives, fill}
 

@@ -36,8 +36,8 @@ use Rattle.pieces.specs.declared.Status.{Status}
 use Rattle.requests.specs.Requests.{metadataCode, rawCode, largeCode, typeb, managerb}
 use Rattle.room.specs.Room.{smallRoomb, largeRoomb, roomBehindb, growsBeyondb, remainsb}
 use Rattle.rules.specs.Editing.{insert}
-use Rattle.space.specs.Answers.{SoundSpace, entriesOf, livesOf}
 use Rattle.space.specs.Giving.{nameOf, entriesBehind}
+use Rattle.space.specs.Outcomes.{SoundSpace, entriesOf, livesOf}
 use Rattle.space.specs.Placing.{beyondb}
 use Rattle.space.specs.declared.Space.{Space}
 use Rattle.table.proofs.Chain.{ChainFrom, stop, step}

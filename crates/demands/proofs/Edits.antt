@@ -25,8 +25,8 @@ use Rattle.pieces.specs.declared.Status.the-variants.{Live}
 use Rattle.requests.specs.Requests.{classFor}
 use Rattle.rules.proofs.RemoveLaws.{named-address, named-size}
 use Rattle.rules.specs.Editing.{names}
-use Rattle.space.specs.Answers.{entriesOf, livesOf, Outcome}
 use Rattle.space.specs.Giving.{nameOf, resizedAt, resized, extended}
+use Rattle.space.specs.Outcomes.{entriesOf, livesOf, Outcome}
 use Rattle.space.specs.Placing.{allocated}
 use Rattle.space.specs.declared.Space.{Space}
 use Rattle.space.specs.declared.give.Way.the-variants.{Longer}

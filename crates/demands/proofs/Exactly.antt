@@ -33,25 +33,25 @@ use Rattle.pieces.proofs.PieceLaws.{entry-among}
 use Rattle.pieces.specs.Pieces.{classOf}
 use Rattle.pieces.specs.declared.Class.{Class}
 use Rattle.pieces.specs.declared.Piece.{Piece}
+use Rattle.refusals.specs.AnswerNumbers.{notSound, unknownCode, zeroAsked, beyondLimit, tableFull, notLive, noRoomBehind, tooLittleLeft, sliceTooShort}
+use Rattle.refusals.specs.declared.NotNamed.the-variants.{NoBytes}
+use Rattle.refusals.specs.declared.NotResized.the-variants.{NoRoomBehind, BeyondLimit, TooLittleLeft}
 use Rattle.requests.specs.Requests.{classFor, classOfManager}
 use Rattle.room.specs.Room.{remainsb}
 use Rattle.rules.specs.Editing.{remove, resize}
 use Rattle.sections.specs.Sections.{sections, pairWords}
-use Rattle.space.proofs.AnswerLaws.{is-sound-true, sound-true}
 use Rattle.space.proofs.OpenLaws.{opened-refused, opened-done}
-use Rattle.space.specs.Answers.{notSound, unknownCode, zeroAsked, beyondLimit, tableFull, notLive, noRoomBehind, tooLittleLeft, sliceTooShort}
-use Rattle.space.specs.Answers.{SoundSpace, soundb, entriesOf, livesOf, Outcome, refusing, plain, settled}
+use Rattle.space.proofs.OutcomeLaws.{is-sound-true, sound-true}
 use Rattle.space.specs.Giving.{nameOf, namedAs, namedIn, whenNamed, naming, releasedAt, released}
 use Rattle.space.specs.Giving.{newSize, resizedTo, resizedAt, resized, extended, shortened}
 use Rattle.space.specs.Listing.{ListOutcome, listedAs, listed}
 use Rattle.space.specs.Opening.{opened}
+use Rattle.space.specs.Outcomes.{SoundSpace, soundb, entriesOf, livesOf, Outcome, refusing, plain, settled}
 use Rattle.space.specs.Placing.{Placed, placedAt, placed, allocated}
 use Rattle.space.specs.declared.Space.{Space}
-use Rattle.space.specs.declared.answers.NotNamed.the-variants.{NoBytes}
-use Rattle.space.specs.declared.answers.NotResized.the-variants.{NoRoomBehind, BeyondLimit, TooLittleLeft}
 use Rattle.space.specs.declared.give.Named.the-variants.{Not}
-use Rattle.space.specs.declared.give.NewSize.the-variants.{Kept}
 use Rattle.space.specs.declared.give.NewSize.{NewSize}
+use Rattle.space.specs.declared.give.NewSize.the-variants.{Kept}
 use Rattle.space.specs.declared.give.Way.the-variants.{Longer, Shorter}
 use Rattle.table.proofs.LocalLaws.{ranges-true, true-ranges}
 use Rattle.table.specs.Fill.{fill}

@@ -17,9 +17,9 @@ use Rattle.demands.specs.Calls.{Call, called, refusalsOf, handedBack, On
 use Rattle.demands.specs.Demands.{Answered, accepted, refused, Covers, KeptSound, Keeps, Runs}
 use Rattle.pieces.specs.declared.Piece.{Piece}
 use Rattle.space.proofs.OpenLaws.{opened-refused, opened-done, opened-sound}
-use Rattle.space.proofs.AnswerLaws.{is-sound-true}
-use Rattle.space.specs.Answers.{SoundSpace, Outcome, stateOf}
+use Rattle.space.proofs.OutcomeLaws.{is-sound-true}
 use Rattle.space.specs.Opening.{opened}
+use Rattle.space.specs.Outcomes.{SoundSpace, Outcome, stateOf}
 use Rattle.space.specs.declared.Space.{Space}
 use Rattle.space.specs.declared.give.Way.the-variants.{Longer, Shorter}
 use Rattle.table.proofs.Theorems.{tiling}

@@ -11,25 +11,26 @@ use mathlib.Core.List.{List}
 use mathlib.Core.Path.{_≡_, refl, sym, ap, _∙_}
 use lib.Dec.{eqb}
 use Rattle.demands.specs.Demands.{Unique, OneResult}
-use Rattle.space.specs.Answers.{notSound, unknownCode, zeroAsked, beyondLimit, notLive, noRoomBehind, tooLittleLeft}
-use Rattle.space.specs.Answers.{openNumber, allocateNumber, addressOf, releaseNumber, resizeNumber, listNumber, countOf, Outcome}
+use Rattle.refusals.specs.AnswerNumbers.{notSound, unknownCode, zeroAsked, beyondLimit, notLive, noRoomBehind, tooLittleLeft}
+use Rattle.refusals.specs.AnswerNumbers.{openNumber, allocateNumber, addressOf, releaseNumber, resizeNumber, listNumber, countOf}
+use Rattle.refusals.specs.declared.AllocateAnswer.{AllocateAnswer}
+use Rattle.refusals.specs.declared.ListAnswer.{ListAnswer}
+use Rattle.refusals.specs.declared.OpenAnswer.{OpenAnswer}
+use Rattle.refusals.specs.declared.ReleaseAnswer.{ReleaseAnswer}
+use Rattle.refusals.specs.declared.ResizeAnswer.{ResizeAnswer}
+use Rattle.refusals.specs.declared.NotNamed.the-variants.{NoBytes, NotLive}
+use Rattle.refusals.specs.declared.NotResized.the-variants.{NoRoomBehind, BeyondLimit, TooLittleLeft}
+use Rattle.refusals.specs.declared.OpenAnswer.the-variants as opening
+use Rattle.refusals.specs.declared.AllocateAnswer.the-variants as allocating
+use Rattle.refusals.specs.declared.ReleaseAnswer.the-variants as releasing
+use Rattle.refusals.specs.declared.ResizeAnswer.the-variants as resizing
+use Rattle.refusals.specs.declared.ListAnswer.the-variants as listing
 use Rattle.space.specs.Giving.{released, extended, shortened}
 use Rattle.space.specs.Listing.{ListOutcome, listed}
 use Rattle.space.specs.Opening.{opened, defaultPage, defaultLimit}
+use Rattle.space.specs.Outcomes.{Outcome}
 use Rattle.space.specs.Placing.{Placed, allocated}
 use Rattle.space.specs.Said.{openSaid, allocateSaid, releaseSaid, resizeSaid, listSaid}
-use Rattle.space.specs.declared.answers.AllocateAnswer.{AllocateAnswer}
-use Rattle.space.specs.declared.answers.ListAnswer.{ListAnswer}
-use Rattle.space.specs.declared.answers.OpenAnswer.{OpenAnswer}
-use Rattle.space.specs.declared.answers.ReleaseAnswer.{ReleaseAnswer}
-use Rattle.space.specs.declared.answers.ResizeAnswer.{ResizeAnswer}
-use Rattle.space.specs.declared.answers.NotNamed.the-variants.{NoBytes, NotLive}
-use Rattle.space.specs.declared.answers.NotResized.the-variants.{NoRoomBehind, BeyondLimit, TooLittleLeft}
-use Rattle.space.specs.declared.answers.OpenAnswer.the-variants as opening
-use Rattle.space.specs.declared.answers.AllocateAnswer.the-variants as allocating
-use Rattle.space.specs.declared.answers.ReleaseAnswer.the-variants as releasing
-use Rattle.space.specs.declared.answers.ResizeAnswer.the-variants as resizing
-use Rattle.space.specs.declared.answers.ListAnswer.the-variants as listing
 
 -- ---- the general argument
 

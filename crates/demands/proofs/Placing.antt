@@ -21,7 +21,7 @@ use Rattle.pieces.proofs.PieceLaws.{entry-among, small-large}
 use Rattle.pieces.specs.declared.Class.{Class}
 use Rattle.pieces.specs.declared.Piece.{Piece}
 use Rattle.requests.specs.Requests.{classFor}
-use Rattle.space.specs.Answers.{entriesOf}
+use Rattle.space.specs.Outcomes.{entriesOf}
 use Rattle.space.specs.Placing.{allocated}
 use Rattle.space.specs.declared.Space.{Space}
 

@@ -24,20 +24,20 @@ use Rattle.pages.proofs.Numbers.{not-both}
 use Rattle.pieces.specs.Pieces.{classOf}
 use Rattle.pieces.specs.declared.Class.{Class}
 use Rattle.pieces.specs.declared.Piece.{Piece}
+use Rattle.refusals.specs.AnswerNumbers.{outOfRange, notSound, zeroAsked, tableFull, notLive, noRoomBehind, beyondLimit, tooLittleLeft, noAddress}
+use Rattle.refusals.specs.declared.NotNamed.the-variants.{NoBytes}
+use Rattle.refusals.specs.declared.NotResized.the-variants.{NoRoomBehind, BeyondLimit, TooLittleLeft}
 use Rattle.room.specs.Room.{roomBehindb, growsBeyondb, remainsb}
 use Rattle.space.proofs.GiveLaws.{naming-unsound, released-naming, resized-naming}
 use Rattle.space.proofs.OpenLaws.{nowhere-unsound}
 use Rattle.space.proofs.PlaceLaws.{allocated-unsound}
-use Rattle.space.specs.Answers.{entriesOf, Outcome, refusing, plain, settled}
-use Rattle.space.specs.Answers.{outOfRange, notSound, zeroAsked, tableFull, notLive, noRoomBehind, beyondLimit, tooLittleLeft, noAddress}
 use Rattle.space.specs.Giving.{namedAs, namedIn, whenNamed, naming, releasedAt, released}
 use Rattle.space.specs.Giving.{entriesBehind, newSize, resizedTo, resizedAt, resized, extended, shortened}
 use Rattle.space.specs.Listing.{ListOutcome, uncounted, listedAs, listed}
 use Rattle.space.specs.Opening.{nowhere, opened}
+use Rattle.space.specs.Outcomes.{entriesOf, Outcome, refusing, plain, settled}
 use Rattle.space.specs.Placing.{Placed, unplaced, placedAt, placed, allocated}
 use Rattle.space.specs.declared.Space.{Space}
-use Rattle.space.specs.declared.answers.NotNamed.the-variants.{NoBytes}
-use Rattle.space.specs.declared.answers.NotResized.the-variants.{NoRoomBehind, BeyondLimit, TooLittleLeft}
 use Rattle.space.specs.declared.give.Named.the-variants.{Not}
 use Rattle.space.specs.declared.give.NewSize.the-variants.{Bytes, Kept}
 use Rattle.space.specs.declared.give.Way.the-variants.{Longer, Shorter}

@@ -17,9 +17,9 @@ use Rattle.pieces.specs.Words.{entryAt, entries, words, table}
 use Rattle.requests.specs.Requests.{classFor}
 use Rattle.room.specs.Room.{smallRoomb, largeRoomb, roomBehindb, growsBeyondb, remainsb}
 use Rattle.rules.specs.Editing.{insert, remove, resize}
-use Rattle.space.specs.Answers.{Outcome, refusing, settled}
 use Rattle.space.specs.Giving.{namedIn, whenNamed, naming, releasedAt, released, newSize, resizedTo, resized}
 use Rattle.space.specs.Opening.{opened}
+use Rattle.space.specs.Outcomes.{Outcome, refusing, settled}
 use Rattle.space.specs.Placing.{placedAt, placed, allocated}
 use Rattle.table.specs.Fill.{lives, free, lo, hi, gap, fillFrom, fill, lastEnd, endOf}
 use Rattle.table.specs.Local.{tableLengthb, rangesb, kindsb, zerosb, shapeb, besideb, cutb, entryb, chainb, localb}

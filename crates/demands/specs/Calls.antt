@@ -16,7 +16,7 @@
 --   IsLive es n          a live entry of es has this address and size
 --   Distinct ns          no name stands twice in ns
 --
--- `SoundSpace` and `livesOf`, state and table sound together and the live pieces of a table, are in space/specs/Answers.antt. Assumes nothing.
+-- `SoundSpace` and `livesOf`, state and table sound together and the live pieces of a table, are in space/specs/Outcomes.antt. Assumes nothing.
 use Prim.Native.Nat.{ℕ, _+_, _-_}
 use mathlib.Core.List.{List, [], _∷_, List·Memᴰ}
 use mathlib.Core.Path.{_≡_}
@@ -24,12 +24,13 @@ use Rattle.find.specs.Find.{Named}
 use Rattle.pieces.specs.Pieces.{piece}
 use Rattle.pieces.specs.declared.Piece.{Piece}
 use Rattle.pieces.specs.declared.Status.the-variants.{Live}
+use Rattle.refusals.specs.AnswerNumbers.{outOfRange, notSound, unknownCode, zeroAsked, beyondLimit, tableFull}
+use Rattle.refusals.specs.AnswerNumbers.{notLive, noRoomBehind, tooLittleLeft, sliceTooShort}
 use Rattle.requests.specs.Requests.{classFor}
 use Rattle.rules.specs.Editing.{Name, insert, remove, resize}
-use Rattle.space.specs.Answers.{outOfRange, notSound, unknownCode, zeroAsked, beyondLimit, tableFull, notLive, noRoomBehind, tooLittleLeft, sliceTooShort}
-use Rattle.space.specs.Answers.{livesOf, Outcome}
 use Rattle.space.specs.Giving.{nameOf, released, extended, shortened}
 use Rattle.space.specs.Opening.{nowhere, opened}
+use Rattle.space.specs.Outcomes.{livesOf, Outcome}
 use Rattle.space.specs.Placing.{allocated}
 use Rattle.space.specs.declared.Space.{Space}
 

@@ -38,12 +38,13 @@ use Rattle.demands.specs.Run.{fiveSteps, twelveSteps, exchangedSteps, le
 use Rattle.pieces.specs.Words.{entryAt, table}
 use Rattle.pieces.specs.declared.Class.{Class}
 use Rattle.pieces.specs.declared.Piece.{Piece}
+use Rattle.refusals.specs.AnswerNumbers.{notSound, noAddress}
 use Rattle.requests.specs.Requests.{classFor}
 use Rattle.rules.specs.Editing.{Name}
-use Rattle.space.specs.Answers.{notSound, noAddress, SoundSpace, entriesOf, livesOf, Outcome, stateOf}
 use Rattle.space.specs.Giving.{released, extended, shortened}
 use Rattle.space.specs.Listing.{ListOutcome, listed}
 use Rattle.space.specs.Opening.{nowhere, opened, defaultPage, defaultLimit}
+use Rattle.space.specs.Outcomes.{SoundSpace, entriesOf, livesOf, Outcome, stateOf}
 use Rattle.space.specs.Placing.{allocated}
 use Rattle.space.specs.Said.{openSaid, allocateSaid, releaseSaid, extendSaid, shortenSaid, listSaid}
 use Rattle.space.specs.declared.Space.{Space}

@@ -26,12 +26,13 @@ use Rattle.pieces.specs.declared.Class.the-variants.{Large}
 use Rattle.pieces.specs.declared.Class.{Class}
 use Rattle.pieces.specs.declared.Piece.{Piece}
 use Rattle.pieces.specs.declared.Status.the-variants.{Live, Free}
+use Rattle.refusals.specs.AnswerNumbers.{outOfRange, notSound, unknownCode, zeroAsked, beyondLimit, tableFull}
+use Rattle.refusals.specs.AnswerNumbers.{notLive, noRoomBehind, tooLittleLeft, sliceTooShort}
 use Rattle.requests.specs.Requests.{metadataCode, rawCode, largeCode, classFor, classOfManager}
 use Rattle.rules.specs.Editing.{insert, remove, resize}
 use Rattle.sections.specs.Sections.{sections, pairWords}
-use Rattle.space.specs.Answers.{outOfRange, notSound, unknownCode, zeroAsked, beyondLimit, tableFull, notLive, noRoomBehind, tooLittleLeft, sliceTooShort}
-use Rattle.space.specs.Answers.{SoundSpace, entriesOf, livesOf}
 use Rattle.space.specs.Giving.{nameOf}
+use Rattle.space.specs.Outcomes.{SoundSpace, entriesOf, livesOf}
 use Rattle.space.specs.declared.Space.{Space}
 use Rattle.table.specs.Fill.{fill}
 use Rattle.table.specs.Sound.{capacity, Ranges}

@@ -24,8 +24,8 @@ use lib.Dec.{eqb}
 use lib.ListN.{replicate}
 use Rattle.demands.specs.Calls.{Call, opens, allocates, releases, extends, shortens, called, Ran, ran}
 use Rattle.requests.specs.Requests.{metadataCode, rawCode}
-use Rattle.space.specs.Answers.{Outcome}
 use Rattle.space.specs.Opening.{opened}
+use Rattle.space.specs.Outcomes.{Outcome}
 use Rattle.space.specs.Placing.{allocated}
 use Rattle.space.specs.declared.Space.{Space}
 

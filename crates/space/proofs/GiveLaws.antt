@@ -29,27 +29,27 @@ use Rattle.pieces.specs.Pieces.{piece, behind, classOf}
 use Rattle.pieces.specs.Words.{entryAt, entries}
 use Rattle.pieces.specs.declared.Class.{Class}
 use Rattle.pieces.specs.declared.Piece.{Piece}
+use Rattle.refusals.specs.AnswerNumbers.{notSound, notNamedNumber, notResizedNumber}
+use Rattle.refusals.specs.declared.NotNamed.the-variants.{NoBytes}
+use Rattle.refusals.specs.declared.NotNamed.{NotNamed}
+use Rattle.refusals.specs.declared.NotResized.the-variants.{NoRoomBehind, BeyondLimit, TooLittleLeft}
+use Rattle.refusals.specs.declared.NotResized.{NotResized}
 use Rattle.room.proofs.RoomLaws.{room-next, room-bytes, limit-kept, grows-last, remains-some}
 use Rattle.room.specs.Room.{roomBehindb, growsBeyondb, GrowFits, remainsb}
 use Rattle.rules.proofs.SpliceLaws.{remove-at, resize-at}
 use Rattle.rules.specs.Editing.{names, remove, resize}
 use Rattle.settle.specs.Settle.{SettleFits}
-use Rattle.space.proofs.AnswerLaws.{refusing-yes, refusing-no, sound-true}
-use Rattle.space.specs.Answers.{notSound, notNamedNumber, notResizedNumber}
-use Rattle.space.specs.Answers.{SoundSpace, soundb, entriesOf, livesOf, Outcome, refused, plain, settled}
+use Rattle.space.proofs.OutcomeLaws.{refusing-yes, refusing-no, sound-true}
 use Rattle.space.specs.Giving.{nameOf, namedAs, namedIn, whenNamed, naming, releasedAt, released}
 use Rattle.space.specs.Giving.{entriesBehind, newSize, resizedTo, resizedAt, resized}
 use Rattle.space.specs.Halves.{FoundIn, livesAround}
+use Rattle.space.specs.Outcomes.{SoundSpace, soundb, entriesOf, livesOf, Outcome, refused, plain, settled}
 use Rattle.space.specs.declared.Space.{Space}
-use Rattle.space.specs.declared.answers.NotNamed.the-variants.{NoBytes}
-use Rattle.space.specs.declared.answers.NotNamed.{NotNamed}
-use Rattle.space.specs.declared.answers.NotResized.the-variants.{NoRoomBehind, BeyondLimit, TooLittleLeft}
-use Rattle.space.specs.declared.answers.NotResized.{NotResized}
 use Rattle.space.specs.declared.give.Named.the-variants.{At, Not}
-use Rattle.space.specs.declared.give.NewSize.the-variants.{Bytes, Kept}
 use Rattle.space.specs.declared.give.NewSize.{NewSize}
-use Rattle.space.specs.declared.give.Way.the-variants.{Longer, Shorter}
+use Rattle.space.specs.declared.give.NewSize.the-variants.{Bytes, Kept}
 use Rattle.space.specs.declared.give.Way.{Way}
+use Rattle.space.specs.declared.give.Way.the-variants.{Longer, Shorter}
 use Rattle.table.proofs.LivesLaws.{lives-append, lives-live}
 use Rattle.table.proofs.Theorems.{sound-good}
 use Rattle.table.proofs.TilingLaws.{ends-below, next-above}

@@ -13,13 +13,14 @@ use borrow.Author.Tests.{le-ltb, lt-ltb}
 use Rattle.pages.proofs.Numbers.{split}
 use Rattle.pieces.specs.declared.Class.{Class}
 use Rattle.pieces.specs.declared.Piece.{Piece}
+use Rattle.refusals.specs.AnswerNumbers.{notSound, unknownCode, sliceTooShort}
 use Rattle.requests.specs.Requests.{managerb, classOfManager}
 use Rattle.sections.specs.Sections.{sections, pairWords, Left, listedIn}
 use Rattle.sections.specs.declared.Listing.the-variants.{Sections, SliceTooShort}
 use Rattle.sections.specs.declared.Listing.{Listing}
-use Rattle.space.proofs.AnswerLaws.{refusing-yes, refusing-no, sound-true}
-use Rattle.space.specs.Answers.{notSound, unknownCode, sliceTooShort, SoundSpace, soundb, entriesOf, refused}
+use Rattle.space.proofs.OutcomeLaws.{refusing-yes, refusing-no, sound-true}
 use Rattle.space.specs.Listing.{ListOutcome, uncounted, listedAs, listed}
+use Rattle.space.specs.Outcomes.{SoundSpace, soundb, entriesOf, refused}
 use Rattle.space.specs.declared.Space.{Space}
 
 -- what `sections` answers, as a listing leaves it

@@ -13,8 +13,9 @@ use native.Mathlib.Omega.{arith}
 use lib.ListN.{length, replicate, drop, length-replicate, getD-replicate, drop-of-length-le}
 use lib.Seq.{paste, take-all}
 use Rattle.pieces.specs.Words.{entryWords, entries}
-use Rattle.space.specs.Answers.{outOfRange, soundb}
+use Rattle.refusals.specs.AnswerNumbers.{outOfRange}
 use Rattle.space.specs.Opening.{nowhere, opened}
+use Rattle.space.specs.Outcomes.{soundb}
 use Rattle.table.proofs.LocalLaws.{true-zeros}
 use Rattle.table.specs.Local.{rangesb, kindsb, zerosb, chainb, localb}
 

@@ -24,6 +24,7 @@ use Rattle.pieces.specs.Pieces.{piece, behind}
 use Rattle.pieces.specs.declared.Class.{Class}
 use Rattle.pieces.specs.declared.Piece.{Piece}
 use Rattle.pieces.specs.declared.Status.the-variants.{Live}
+use Rattle.refusals.specs.AnswerNumbers.{notSound, unknownCode, zeroAsked, beyondLimit, tableFull}
 use Rattle.requests.proofs.RequestLaws.{class-small}
 use Rattle.requests.specs.Requests.{typeb, classFor}
 use Rattle.room.proofs.RoomLaws.{limit-kept}
@@ -31,10 +32,9 @@ use Rattle.room.specs.Room.{passesb, GrowFits}
 use Rattle.rules.proofs.InsertLaws.{insert-within, insert-last}
 use Rattle.rules.specs.Editing.{insert}
 use Rattle.settle.specs.Settle.{SettleFits}
-use Rattle.space.proofs.AnswerLaws.{refusing-yes, refusing-no, sound-true}
-use Rattle.space.specs.Answers.{notSound, unknownCode, zeroAsked, beyondLimit, tableFull}
-use Rattle.space.specs.Answers.{SoundSpace, soundb, entriesOf, livesOf, Outcome, refused, settled}
+use Rattle.space.proofs.OutcomeLaws.{refusing-yes, refusing-no, sound-true}
 use Rattle.space.specs.Halves.{PlaceFits, livesAround}
+use Rattle.space.specs.Outcomes.{SoundSpace, soundb, entriesOf, livesOf, Outcome, refused, settled}
 use Rattle.space.specs.Placing.{beyondb, Placed, unplaced, placedAt, placed, allocated}
 use Rattle.space.specs.declared.Space.{Space}
 use Rattle.table.proofs.TilingLaws.{ends-below}

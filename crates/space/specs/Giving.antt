@@ -21,13 +21,13 @@ use Rattle.find.specs.declared.Found.the-variants as finding
 use Rattle.pieces.specs.Pieces.{classOf}
 use Rattle.pieces.specs.Words.{entries}
 use Rattle.pieces.specs.declared.Piece.{Piece}
+use Rattle.refusals.specs.AnswerNumbers.{notSound, notNamedNumber, notResizedNumber}
+use Rattle.refusals.specs.declared.NotNamed.the-variants.{NoBytes, NotLive}
+use Rattle.refusals.specs.declared.NotResized.the-variants.{NoRoomBehind, BeyondLimit, TooLittleLeft}
 use Rattle.room.specs.Room.{roomBehindb, growsBeyondb, remainsb}
 use Rattle.rules.specs.Editing.{Name, remove, resize}
-use Rattle.space.specs.Answers.{notSound, notNamedNumber, notResizedNumber}
-use Rattle.space.specs.Answers.{soundb, entriesOf, livesOf, Outcome, refused, refusing, plain, settled}
+use Rattle.space.specs.Outcomes.{soundb, entriesOf, livesOf, Outcome, refused, refusing, plain, settled}
 use Rattle.space.specs.declared.Space.{Space}
-use Rattle.space.specs.declared.answers.NotNamed.the-variants.{NoBytes, NotLive}
-use Rattle.space.specs.declared.answers.NotResized.the-variants.{NoRoomBehind, BeyondLimit, TooLittleLeft}
 use Rattle.space.specs.declared.give.Named.{Named}
 use Rattle.space.specs.declared.give.Named.the-variants.{At, Not}
 use Rattle.space.specs.declared.give.NewSize.{NewSize}

@@ -15,10 +15,11 @@ use Rattle.find.specs.Find.{FoundAt}
 use Rattle.pieces.specs.Pieces.{Small}
 use Rattle.pieces.specs.declared.Class.{Class}
 use Rattle.pieces.specs.declared.Piece.{Piece}
+use Rattle.refusals.specs.AnswerNumbers.{tableFull}
 use Rattle.rules.specs.Between.{livesWith}
 use Rattle.settle.specs.declared.Settling.{Settling}
 use Rattle.settle.specs.declared.Settling.the-variants.{Done, TableFull}
-use Rattle.space.specs.Answers.{tableFull, SoundSpace, entriesOf, withEnd, Outcome, refused}
+use Rattle.space.specs.Outcomes.{SoundSpace, entriesOf, withEnd, Outcome, refused}
 use Rattle.space.specs.declared.Space.{Space}
 
 abbrev pub livesAround : Space → List ℕ → ℕ → ℕ → List Piece → List Piece

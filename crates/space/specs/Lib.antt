@@ -1,5 +1,5 @@
--- What the calls mean. Read Answers, Opening, Placing, Giving, Listing, in document 01's order.
-pub mod Answers
+-- What the calls mean. Read Outcomes, Opening, Placing, Giving, Listing, in document 01's order.
+pub mod Outcomes
 pub mod Opening
 pub mod Placing
 pub mod Giving

@@ -12,9 +12,10 @@ use Prim.Native.Nat.{ℕ, _*_}
 use lib.Dec.{ltb}
 use lib.ListN.{length, drop}
 use Rattle.pieces.specs.declared.Piece.{Piece}
+use Rattle.refusals.specs.AnswerNumbers.{notSound, unknownCode, sliceTooShort}
 use Rattle.requests.specs.Requests.{managerb, classOfManager}
 use Rattle.sections.specs.Sections.{sections, pairWords, pairs}
-use Rattle.space.specs.Answers.{notSound, unknownCode, sliceTooShort, soundb, entriesOf, Outcome, refusing}
+use Rattle.space.specs.Outcomes.{soundb, entriesOf, Outcome, refusing}
 use Rattle.space.specs.declared.Space.{Space}
 
 pub record ListOutcome : Type 0 where

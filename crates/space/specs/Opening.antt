@@ -9,10 +9,11 @@ use mathlib.Core.Bool.{cond}
 use mathlib.Core.List.{List}
 use Prim.Native.Nat.{ℕ}
 use lib.ListN.{length, replicate}
+use Rattle.refusals.specs.AnswerNumbers.{outOfRange}
 use Rattle.table.specs.Sound.{largestLimit}
 use Rattle.table.specs.Local.{rangesb}
+use Rattle.space.specs.Outcomes.{Outcome}
 use Rattle.space.specs.declared.Space.{Space}
-use Rattle.space.specs.Answers.{outOfRange, Outcome}
 
 abbrev pub defaultPage : ℕ
 defaultPage = 4096

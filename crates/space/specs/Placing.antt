@@ -16,11 +16,11 @@ use Rattle.choose.specs.declared.place.Place.{Place}
 use Rattle.pieces.specs.Pieces.{piece}
 use Rattle.pieces.specs.declared.Class.{Class}
 use Rattle.pieces.specs.declared.Status.the-variants.{Live}
+use Rattle.refusals.specs.AnswerNumbers.{notSound, unknownCode, zeroAsked, beyondLimit, noAddress}
 use Rattle.requests.specs.Requests.{typeb, classFor}
 use Rattle.room.specs.Room.{passesb}
 use Rattle.rules.specs.Editing.{insert}
-use Rattle.space.specs.Answers.{notSound, unknownCode, zeroAsked, beyondLimit, noAddress}
-use Rattle.space.specs.Answers.{soundb, entriesOf, livesOf, Outcome, refusing, settled}
+use Rattle.space.specs.Outcomes.{soundb, entriesOf, livesOf, Outcome, refusing, settled}
 use Rattle.space.specs.declared.Space.{Space}
 
 abbrev pub beyondb : Space → ℕ → Place → Bool

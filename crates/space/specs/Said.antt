@@ -9,14 +9,15 @@
 -- Assumes nothing.
 use mathlib.Core.List.{List}
 use Prim.Native.Nat.{ℕ}
-use Rattle.space.specs.declared.answers.Opened.{Opened}
+use Rattle.refusals.specs.AnswerNumbers.{openNumber, allocateNumber, addressOf, releaseNumber, resizeNumber, listNumber, countOf}
+use Rattle.space.specs.Listing.{ListOutcome}
+use Rattle.space.specs.Outcomes.{Outcome}
+use Rattle.space.specs.Placing.{Placed}
 use Rattle.space.specs.declared.answers.Allocated.{Allocated}
+use Rattle.space.specs.declared.answers.Listed.{Listed}
+use Rattle.space.specs.declared.answers.Opened.{Opened}
 use Rattle.space.specs.declared.answers.Released.{Released}
 use Rattle.space.specs.declared.answers.Resized.{Resized}
-use Rattle.space.specs.declared.answers.Listed.{Listed}
-use Rattle.space.specs.Answers.{openNumber, allocateNumber, addressOf, releaseNumber, resizeNumber, listNumber, countOf, Outcome}
-use Rattle.space.specs.Placing.{Placed}
-use Rattle.space.specs.Listing.{ListOutcome}
 
 abbrev pub openSaid : Opened → List ℕ → Outcome
 openSaid r w = record { refusal = openNumber (r .answer); state = r .space; words = w }

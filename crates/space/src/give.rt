@@ -1,9 +1,9 @@
 // Giving back, lengthening, shortening. Each names a live piece by its exact address and size.
 ghost use mathlib.Core.Path.{_≡_};
 ghost use Prim.Native.Nat.{_+_, _≤_};
-ghost use Rattle.space.specs.Answers.{SoundSpace};
 ghost use Rattle.space.specs.Giving.{namedIn, releasedAt, released, newSize, resizedTo, resizedAt, resized, extended, shortened};
 ghost use Rattle.space.specs.Halves.{FoundIn};
+ghost use Rattle.space.specs.Outcomes.{SoundSpace};
 ghost use Rattle.space.specs.Said.{releaseSaid, resizeSaid, extendSaid, shortenSaid};
 ghost use Rattle.space.specs.declared.give.NewSize.the-variants.{Bytes};
 use crate::Space;

@@ -10,7 +10,7 @@ pub mod open;
 pub mod place;
 
 ghost use mathlib.Core.Path.{_≡_};
-ghost use Rattle.space.specs.Answers.{soundb, withEnd};
+ghost use Rattle.space.specs.Outcomes.{soundb, withEnd};
 
 // The state: page size, address limit, end of the allocated file, count of entries.
 pub struct Space {

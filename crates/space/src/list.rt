@@ -1,7 +1,7 @@
 // Listing one manager's free sections.
 ghost use mathlib.Core.Path.{_≡_};
-ghost use Rattle.space.specs.Answers.{SoundSpace};
 ghost use Rattle.space.specs.Listing.{listed};
+ghost use Rattle.space.specs.Outcomes.{SoundSpace};
 ghost use Rattle.space.specs.Said.{listSaid};
 use crate::Space;
 use crate::answers::ListAnswer;

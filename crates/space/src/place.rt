@@ -1,8 +1,8 @@
 // Choosing a place.
 ghost use mathlib.Core.Path.{_≡_};
 ghost use Rattle.room.specs.Room.{GrowFits};
-ghost use Rattle.space.specs.Answers.{SoundSpace};
 ghost use Rattle.space.specs.Halves.{PlaceFits};
+ghost use Rattle.space.specs.Outcomes.{SoundSpace};
 ghost use Rattle.space.specs.Placing.{beyondb, placed, allocated};
 ghost use Rattle.space.specs.Said.{allocateSaid};
 use crate::Space;

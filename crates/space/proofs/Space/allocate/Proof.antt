@@ -3,7 +3,7 @@
 use mathlib.Core.Path.{sym}
 use borrow.Author.Needs.{needs}
 use Rattle.pages.proofs.Numbers.{fails}
-use Rattle.space.proofs.AnswerLaws.{tested}
+use Rattle.space.proofs.OutcomeLaws.{tested}
 use Rattle.space.proofs.PlaceLaws.{allocated-unsound}
 use Rattle.space.proofs.Space.allocate.Statement.{statement}
 use Rattle.space.proofs.Space.allocate.Tie as tie

@@ -3,8 +3,8 @@
 use mathlib.Core.Path.{sym}
 use borrow.Author.Needs.{needs}
 use Rattle.pages.proofs.Numbers.{fails}
-use Rattle.space.proofs.AnswerLaws.{tested}
 use Rattle.space.proofs.ListLaws.{listed-unsound}
+use Rattle.space.proofs.OutcomeLaws.{tested}
 use Rattle.space.proofs.Space.list.Statement.{statement}
 use Rattle.space.proofs.Space.list.Tie as tie
 

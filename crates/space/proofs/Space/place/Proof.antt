@@ -3,7 +3,7 @@
 use mathlib.Core.Path.{sym, _∙_}
 use native.Mathlib.Omega.{arith}
 use borrow.Author.Needs.{needs}
-use Rattle.space.proofs.AnswerLaws.{settled-done, settled-not}
+use Rattle.space.proofs.OutcomeLaws.{settled-done, settled-not}
 use Rattle.space.proofs.PlaceLaws.{place-grow, stands-at, place-settle, placed-beyond, placed-settled, placed-done, placed-full}
 use Rattle.space.proofs.Space.place.Statement.{statement}
 use Rattle.space.proofs.Space.place.Tie as tie

@@ -3,8 +3,8 @@
 use mathlib.Core.Path.{refl, sym, _∙_}
 use borrow.Author.Needs.{needs}
 use Rattle.pages.proofs.Numbers.{fails}
-use Rattle.space.proofs.AnswerLaws.{tested}
 use Rattle.space.proofs.GiveLaws.{naming-unsound, resized-naming}
+use Rattle.space.proofs.OutcomeLaws.{tested}
 use Rattle.space.proofs.Space.resize.Statement.{statement}
 use Rattle.space.proofs.Space.resize.Tie as tie
 

@@ -3,8 +3,8 @@
 use mathlib.Core.Path.{sym, _∙_}
 use native.Mathlib.Omega.{arith}
 use borrow.Author.Needs.{needs}
-use Rattle.space.proofs.AnswerLaws.{settled-done, settled-not}
 use Rattle.space.proofs.GiveLaws.{found-lt, settle-fits, resized-settled}
+use Rattle.space.proofs.OutcomeLaws.{settled-done, settled-not}
 use Rattle.space.proofs.Space.resize_to.Statement.{statement}
 use Rattle.space.proofs.Space.resize_to.Tie as tie
 

@@ -16,12 +16,13 @@ use borrow.Author.Tests.{lt-ltb, le-ltb}
 use Rattle.pages.proofs.Numbers.{split, passes}
 use Rattle.pieces.specs.Words.{table}
 use Rattle.pieces.specs.declared.Piece.{Piece}
+use Rattle.refusals.specs.AnswerNumbers.{tableFull}
 use Rattle.settle.proofs.SettleLaws as settling
 use Rattle.settle.specs.Settle.{settledTable, settleSaid}
 use Rattle.settle.specs.declared.Settling.the-variants.{Done, TableFull}
 use Rattle.settle.specs.declared.Settling.{Settling}
-use Rattle.space.specs.Answers.{tableFull, SoundSpace, soundb, Outcome, refused, refusing, plain, withEnd, stateOf, settled}
 use Rattle.space.specs.Halves.{outcomeOf}
+use Rattle.space.specs.Outcomes.{SoundSpace, soundb, Outcome, refused, refusing, plain, withEnd, stateOf, settled}
 use Rattle.space.specs.declared.Space.{Space}
 use Rattle.table.proofs.Theorems.{local-form}
 use Rattle.table.specs.Fill.{fill}

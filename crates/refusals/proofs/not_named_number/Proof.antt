@@ -1,10 +1,10 @@
--- `space::answers::not_named_number` meets its contract: each reason has its number.
+-- `refusals::not_named_number` meets its contract: each reason has its number.
 -- Assumes nothing.
 use mathlib.Core.Path.{sym, ap}
 use borrow.Author.Needs.{needs}
-use Rattle.space.specs.Answers.{notNamedNumber}
-use Rattle.space.proofs.answers.not_named_number.Statement.{statement}
-use Rattle.space.proofs.answers.not_named_number.Tie as tie
+use Rattle.refusals.specs.AnswerNumbers.{notNamedNumber}
+use Rattle.refusals.proofs.not_named_number.Statement.{statement}
+use Rattle.refusals.proofs.not_named_number.Tie as tie
 
 enum-told : tie.Need-enum-told
 enum-told c = search needs

@@ -1,0 +1,115 @@
+-- Document 01's numbers for what a call on a space answers.
+--
+--   outOfRange .. sliceTooShort     the numbered refusals that calls on a space can give; success is 0
+--   noAddress                       the address answer of a refused call
+--   openNumber, allocateNumber, ..  the number of each case of each call's answer; notNamedNumber, notResizedNumber of each reason why a piece is
+--                                   not named, or keeps its size
+--   addressOf, countOf              the address answer, the count answer, of each case
+--
+-- Assumes nothing.
+use Prim.Native.Nat.{ℕ, _-_, _^_}
+use Rattle.refusals.specs.declared.OpenAnswer.{OpenAnswer}
+use Rattle.refusals.specs.declared.AllocateAnswer.{AllocateAnswer}
+use Rattle.refusals.specs.declared.NotNamed.{NotNamed}
+use Rattle.refusals.specs.declared.ReleaseAnswer.{ReleaseAnswer}
+use Rattle.refusals.specs.declared.NotResized.{NotResized}
+use Rattle.refusals.specs.declared.ResizeAnswer.{ResizeAnswer}
+use Rattle.refusals.specs.declared.ListAnswer.{ListAnswer}
+use Rattle.refusals.specs.declared.OpenAnswer.the-variants as opening
+use Rattle.refusals.specs.declared.AllocateAnswer.the-variants as allocating
+use Rattle.refusals.specs.declared.NotNamed.the-variants as unnamed
+use Rattle.refusals.specs.declared.ReleaseAnswer.the-variants as releasing
+use Rattle.refusals.specs.declared.NotResized.the-variants as unsized
+use Rattle.refusals.specs.declared.ResizeAnswer.the-variants as resizing
+use Rattle.refusals.specs.declared.ListAnswer.the-variants as listing
+
+-- ---- the numbers
+
+abbrev pub outOfRange : ℕ
+outOfRange = 1
+
+abbrev pub notSound : ℕ
+notSound = 2
+
+abbrev pub unknownCode : ℕ
+unknownCode = 3
+
+abbrev pub zeroAsked : ℕ
+zeroAsked = 4
+
+abbrev pub beyondLimit : ℕ
+beyondLimit = 5
+
+abbrev pub tableFull : ℕ
+tableFull = 6
+
+abbrev pub notLive : ℕ
+notLive = 7
+
+abbrev pub noRoomBehind : ℕ
+noRoomBehind = 8
+
+abbrev pub tooLittleLeft : ℕ
+tooLittleLeft = 9
+
+abbrev pub sliceTooShort : ℕ
+sliceTooShort = 10
+
+abbrev pub noAddress : ℕ
+noAddress = 2 ^ 64 - 1
+
+-- ---- each case of each answer
+
+abbrev pub openNumber : OpenAnswer → ℕ
+openNumber opening.Done = 0
+openNumber opening.OutOfRange = outOfRange
+
+abbrev pub allocateNumber : AllocateAnswer → ℕ
+allocateNumber (allocating.At a) = 0
+allocateNumber allocating.NotSound = notSound
+allocateNumber allocating.UnknownType = unknownCode
+allocateNumber allocating.NoBytes = zeroAsked
+allocateNumber allocating.BeyondLimit = beyondLimit
+allocateNumber allocating.TableFull = tableFull
+
+abbrev pub addressOf : AllocateAnswer → ℕ
+addressOf (allocating.At a) = a
+addressOf allocating.NotSound = noAddress
+addressOf allocating.UnknownType = noAddress
+addressOf allocating.NoBytes = noAddress
+addressOf allocating.BeyondLimit = noAddress
+addressOf allocating.TableFull = noAddress
+
+abbrev pub notNamedNumber : NotNamed → ℕ
+notNamedNumber unnamed.NoBytes = zeroAsked
+notNamedNumber unnamed.NotLive = notLive
+
+abbrev pub releaseNumber : ReleaseAnswer → ℕ
+releaseNumber releasing.Done = 0
+releaseNumber releasing.NotSound = notSound
+releaseNumber (releasing.NotNamed why) = notNamedNumber why
+releaseNumber releasing.TableFull = tableFull
+
+abbrev pub notResizedNumber : NotResized → ℕ
+notResizedNumber unsized.NoRoomBehind = noRoomBehind
+notResizedNumber unsized.BeyondLimit = beyondLimit
+notResizedNumber unsized.TooLittleLeft = tooLittleLeft
+
+abbrev pub resizeNumber : ResizeAnswer → ℕ
+resizeNumber resizing.Done = 0
+resizeNumber resizing.NotSound = notSound
+resizeNumber (resizing.NotNamed why) = notNamedNumber why
+resizeNumber (resizing.NotResized why) = notResizedNumber why
+resizeNumber resizing.TableFull = tableFull
+
+abbrev pub listNumber : ListAnswer → ℕ
+listNumber (listing.Sections k) = 0
+listNumber listing.NotSound = notSound
+listNumber listing.UnknownManager = unknownCode
+listNumber listing.SliceTooShort = sliceTooShort
+
+abbrev pub countOf : ListAnswer → ℕ
+countOf (listing.Sections k) = k
+countOf listing.NotSound = 0
+countOf listing.UnknownManager = 0
+countOf listing.SliceTooShort = 0
