@@ -11,7 +11,7 @@ use crate::map;
 use crate::report;
 use crate::report::Run;
 use crate::tables;
-use script::numbers::Number;
+use figures::numbers::Number;
 
 // The numbers of a line.
 pub enum Numbers {
@@ -28,7 +28,7 @@ fn word_number(call: Call, is_first: bool, word: &[u8]) -> Number {
             return Number::Is(code);
         }
     }
-    script::numbers::number_of(word)
+    figures::numbers::number_of(word)
 }
 
 // The numbers of the first `count` words from `from` on.

@@ -69,9 +69,9 @@ pub fn read(line: u64, word: &[u8])
     requires { ⌜ length (now word) ≤ lineBytes ⌝ }
 {
     let mut bytes = [0u8; BYTES];
-    if script::bytes::is_hex(word) {
+    if figures::bytes::is_hex(word) {
         let n = word.len() / 2;
-        script::bytes::unhex(word, &mut bytes);
+        figures::bytes::unhex(word, &mut bytes);
         say_message(&bytes[..n]);
         return;
     }

@@ -1,5 +1,6 @@
-// `filespace` reads calls from standard input, one to a line, and answers each. It is thin: what a word says is the library `script`'s, the
-// calls are those of `space` and `message`. What is here is proved to be safe and to end; what is read and written, nothing can promise.
+// `filespace` reads calls from standard input, one to a line, and answers each. It is thin: the words of a line are `script`'s, what a word
+// says is `figures`', the calls are those of `space` and `message`. What is here is proved to be safe and to end; what is read and written,
+// nothing can promise.
 mod answer;
 mod calls;
 mod give;

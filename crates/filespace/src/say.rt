@@ -2,9 +2,9 @@
 ghost use mathlib.Core.Path.{_≡_};
 ghost use Prim.Native.Nat.{_+_, _≤_};
 ghost use lib.ListN.{length};
-ghost use Rattle.script.specs.Laid.{numberBytes};
+ghost use Rattle.figures.specs.Laid.{numberBytes};
+use figures::text::NUMBER_BYTES;
 use libc::STDOUT_FILENO;
-use script::text::NUMBER_BYTES;
 
 pub fn text(text: &[u8]) {
     io::write_all(STDOUT_FILENO, text);
@@ -41,8 +41,8 @@ pub fn column(n: u64, width: usize) {
 // A byte in hexadecimal.
 fn two_digits(value: u8) {
     let digits = [
-        script::bytes::digit(value / 16),
-        script::bytes::digit(value % 16),
+        figures::bytes::digit(value / 16),
+        figures::bytes::digit(value % 16),
     ];
     text(&digits);
 }
@@ -61,8 +61,8 @@ fn lay_spaced(out: &mut [u8], at: usize, n: u64) -> usize
     requires { ⌜ at + 1 + numberBytes ≤ length (now out) ⌝ }
     ensures { λ r. ⌜ (r ≤ length (now (out .exit))) × (length (now (out .exit)) ≡ length (now (out .entry))) ⌝ }
 {
-    let next = script::text::lay(out, at, b" ");
-    script::text::lay_number(out, next, n)
+    let next = figures::text::lay(out, at, b" ");
+    figures::text::lay_number(out, next, n)
 }
 
 // The words of a list, each behind a blank. They are gathered, since a table has thousands of them.

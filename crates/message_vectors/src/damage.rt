@@ -11,7 +11,7 @@ use crate::tell::finish;
 use crate::tell::item;
 use crate::tell::label;
 use crate::tell::labelled;
-use script::text::lay;
+use figures::text::lay;
 use show::claim::Tally;
 use show::claim::say_verdict;
 

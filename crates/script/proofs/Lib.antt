@@ -1,5 +1,2 @@
--- The laws of `script`, one file for each file of specs/.
+-- The laws of Line.
 pub mod LineLaws
-pub mod DecimalLaws
-pub mod LaidLaws
-pub mod HexLaws

@@ -1,5 +1,2 @@
--- What the contracts of `script` cite. Line, Decimal, Hex, Laid; what is proved of them stands at the end of Line and Decimal.
+-- What the contracts of `script` cite. What is proved of it stands at the end of Line.
 pub mod Line
-pub mod Decimal
-pub mod Hex
-pub mod Laid

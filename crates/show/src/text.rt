@@ -1,9 +1,6 @@
 // Standard output. What a write answers is not looked at: a program's output is compared as a whole.
-ghost use Prim.Native.Nat.{_≤_};
-ghost use lib.ListN.{length};
 use libc::STDOUT_FILENO;
-
-const LINE_END: u8 = b'\n';
+use script::words::line_end;
 
 pub fn say(text: &[u8]) {
     io::write_all(STDOUT_FILENO, text);
@@ -17,21 +14,6 @@ pub fn say_number(n: u64) {
 pub fn say_line(text: &[u8]) {
     say(text);
     say(b"\n");
-}
-
-// Where the line ends that starts at `from`.
-fn line_end(text: &[u8], from: usize) -> usize
-    requires { ⌜ from ≤ length (now text) ⌝ }
-    ensures { λ r. ⌜ (from ≤ r) × (r ≤ length (now (text .entry))) ⌝ }
-{
-    let mut i = from;
-    while i < text.len() {
-        if text[i] == LINE_END {
-            return i;
-        }
-        i += 1;
-    }
-    i
 }
 
 // Line k of a text, counted from 0, without its end. Nothing, where there is none.
