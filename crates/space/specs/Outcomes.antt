@@ -8,6 +8,7 @@
 --   Outcome                 what a call leaves: its refusal number (0 if accepted), the state, and every word of the lent table
 --   refused k sp w          refused with k: the state and every word as they came
 --   refusing form sp w t k o  refused with k if t holds, and else o; `form` says how an outcome stands in what the call leaves, `plain` as it is
+--   stateOf sp ps           the state with the end and the count that the live pieces ps determine
 --   settled sp w ps         the table and the end that the live pieces ps determine; 6, if the table has too little room for them
 --
 -- Assumes nothing.
