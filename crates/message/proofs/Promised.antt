@@ -17,7 +17,7 @@ use Rattle.message.proofs.AnswerLaws.{reading-refused, reading-done, fo
 use Rattle.message.proofs.RuleLaws.{legal-true, true-legal, false-legal}
 use Rattle.message.proofs.SaysLaws.{says-fields, fields-said, held-fields, message-said, said-message}
 use Rattle.message.specs.Message.{readAnswer, reading, following, written, Wrote}
-use Rattle.message.specs.Promises.{Legal, Says, NoMessage, ReadRow, ten, eleven, twelve, done, RestRow, whole, behind, WriteRow}
+use Rattle.message.specs.Promises.{Legal, Says, NoMessage, ReadRow, too-short, other-version, broken-field, done, RestRow, whole, behind, WriteRow}
 use Rattle.message.specs.Promises.{ReadExact, RestExact, WriteExact, Message, Accepted, RoundTrip, Unique}
 use Rattle.message_bytes.proofs.PartLaws.{length-message}
 use Rattle.message_bytes.specs.Parts.{fieldsOf, messageOf}
@@ -31,11 +31,12 @@ use Rattle.message_fields.specs.declared.Read.{Read}
 use Rattle.message_fields.specs.declared.Refusal.the-variants.{Short, Version, Field}
 use Rattle.message_fields.specs.declared.Refusal.{Refusal}
 use Rattle.pages.proofs.Numbers.{split, not-both}
+use Rattle.refusals.specs.AnswerNumbers.{sliceTooShort, otherVersion}
 
 -- ---- answers by their numbers
 
 answerOf : ℕ → Answer
-answerOf n = cond (eqb n 0) Done (cond (eqb n 10) (Refused Short) (cond (eqb n 11) (Refused Version) (Refused Field)))
+answerOf n = cond (eqb n 0) Done (cond (eqb n sliceTooShort) (Refused Short) (cond (eqb n otherVersion) (Refused Version) (Refused Field)))
 
 answer-number : (a : Answer) → answerOf (numberOf a) ≡ a
 unfolding answerOf
@@ -94,18 +95,18 @@ reading-row : (b : List ℕ) → ReadRow b (numberOf (reading b .answer)) (readi
 unfolding refusedRead
 reading-row b =
     read-cases b
-    (λ h. rw (reading-refused b (read-short b h)) (ten refl refl h))
-    (λ h n. rw (reading-refused b (read-version b h n)) (eleven refl refl h n))
-    (λ h v e. rw (reading-refused b (read-field b h v e)) (twelve refl refl h v (broken-none b e)))
+    (λ h. rw (reading-refused b (read-short b h)) (too-short refl refl h))
+    (λ h n. rw (reading-refused b (read-version b h n)) (other-version refl refl h n))
+    (λ h v e. rw (reading-refused b (read-field b h v e)) (broken-field refl refl h v (broken-none b e)))
     (λ s l. rw (reading-done b (says-done s l)) (done refl s l))
 
 row-reading : (b : List ℕ) (r : Read) → ReadRow b (numberOf (r .answer)) (r .fields) → r ≡ reading b
 unfolding refusedRead answerOf
-row-reading b r (ten n g h) =
+row-reading b r (too-short n g h) =
     (λ i. record { answer = numbered (r .answer) n i; fields = g i }) ∙ sym (reading-refused b (read-short b h))
-row-reading b r (eleven n g h v) =
+row-reading b r (other-version n g h v) =
     (λ i. record { answer = numbered (r .answer) n i; fields = g i }) ∙ sym (reading-refused b (read-version b h v))
-row-reading b r (twelve n g h v m) =
+row-reading b r (broken-field n g h v m) =
     (λ i. record { answer = numbered (r .answer) n i; fields = g i })
     ∙ sym (reading-refused b (read-field b h v (false-legal (fieldsOf b) (m (fieldsOf b) (says-fields b h v)))))
 row-reading b r (done n s l) =
@@ -156,20 +157,20 @@ written-row f b a c h w = tested (legalb f) refl
     tested : (t : Bool) → legalb f ≡ t → WriteRow f b (numberOf a) c
     tested false e =
         let x = write-field f (length b) e in
-        twelve (ap numberOf (w .answer ∙ x)) (w .bytes ∙ written-refused f b x) (λ l. not-both (true-legal f l) e)
+        broken-field (ap numberOf (w .answer ∙ x)) (w .bytes ∙ written-refused f b x) (λ l. not-both (true-legal f l) e)
     tested true e =
         split messageLength (length b)
         (λ m. let x = write-done f (length b) e m in
         let d = w .bytes ∙ written-done f b x in
         done (ap numberOf (w .answer ∙ x)) (legal-true f e) m (laid-says f b c h d) (laid-rest f b c h d))
-        (λ m. let x = write-short f (length b) e m in ten (ap numberOf (w .answer ∙ x)) (w .bytes ∙ written-refused f b x) (legal-true f e) m)
+        (λ m. let x = write-short f (length b) e m in too-short (ap numberOf (w .answer ∙ x)) (w .bytes ∙ written-refused f b x) (legal-true f e) m)
 
 row-written : (f : Fields) (b : List ℕ) (a : Answer) (c : List ℕ) → Held f → Bytes c → WriteRow f b (numberOf a) c → Wrote f b a c
 unfolding answerOf
-row-written f b a c h k (twelve n e l) =
+row-written f b a c h k (broken-field n e l) =
     let x = write-field f (length b) (false-legal f l) in
     record { held = h; answer = numbered a n ∙ sym x; bytes = e ∙ sym (written-refused f b x) }
-row-written f b a c h k (ten n e l m) =
+row-written f b a c h k (too-short n e l m) =
     let x = write-short f (length b) (true-legal f l) m in
     record { held = h; answer = numbered a n ∙ sym x; bytes = e ∙ sym (written-refused f b x) }
 row-written f b a c h k (done n l m s d) =

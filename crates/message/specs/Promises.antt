@@ -33,6 +33,7 @@ use Rattle.message_fields.specs.Layout.{versionAt, strategyAt, persistAt, thres
 use Rattle.message_fields.specs.Layout.{messageLength, types, addressWidth}
 use Rattle.message_fields.specs.Legal.{lastStrategy, lastPersist, undefined}
 use Rattle.message.specs.Message.{readAnswer, reading, following, written, Wrote}
+use Rattle.refusals.specs.AnswerNumbers.{sliceTooShort, otherVersion, brokenField}
 
 -- ---- the fields
 
@@ -69,9 +70,9 @@ NoMessage b = (f : Fields) → Says f b → Legal f → ⊥
 -- ---- the rows
 
 pub data ReadRow (b : List ℕ) (n : ℕ) (g : Fields) : Type 0 where
-  ten : n ≡ 10 → g ≡ noFields → length b < messageLength → ReadRow b n g
-  eleven : n ≡ 11 → g ≡ noFields → messageLength ≤ length b → (valueAt versionAt strategyAt b ≡ version → ⊥) → ReadRow b n g
-  twelve : n ≡ 12 → g ≡ noFields → messageLength ≤ length b → valueAt versionAt strategyAt b ≡ version → NoMessage b → ReadRow b n g
+  too-short : n ≡ sliceTooShort → g ≡ noFields → length b < messageLength → ReadRow b n g
+  other-version : n ≡ otherVersion → g ≡ noFields → messageLength ≤ length b → (valueAt versionAt strategyAt b ≡ version → ⊥) → ReadRow b n g
+  broken-field : n ≡ brokenField → g ≡ noFields → messageLength ≤ length b → valueAt versionAt strategyAt b ≡ version → NoMessage b → ReadRow b n g
   done : n ≡ 0 → Says g b → Legal g → ReadRow b n g
 
 pub data RestRow (b c : List ℕ) : Type 0 where
@@ -79,8 +80,8 @@ pub data RestRow (b c : List ℕ) : Type 0 where
   behind : (f : Fields) → Says f b → Legal f → c ≡ drop (lengthOf f) b → RestRow b c
 
 pub data WriteRow (f : Fields) (b : List ℕ) (n : ℕ) (c : List ℕ) : Type 0 where
-  twelve : n ≡ 12 → c ≡ b → (Legal f → ⊥) → WriteRow f b n c
-  ten : n ≡ 10 → c ≡ b → Legal f → length b < lengthOf f → WriteRow f b n c
+  broken-field : n ≡ brokenField → c ≡ b → (Legal f → ⊥) → WriteRow f b n c
+  too-short : n ≡ sliceTooShort → c ≡ b → Legal f → length b < lengthOf f → WriteRow f b n c
   done : n ≡ 0 → Legal f → lengthOf f ≤ length b → Says f c → drop (lengthOf f) c ≡ drop (lengthOf f) b → WriteRow f b n c
 
 -- ---- the theorems

@@ -24,6 +24,7 @@ use Rattle.message_fields.specs.declared.Answer.{Answer}
 use Rattle.message_fields.specs.declared.Answer.the-variants.{Done, Refused}
 use Rattle.message_fields.specs.Layout.{strategyAt, persistAt, thresholdAt, pageAt, pageEndAt, eoaAt, smallAt}
 use Rattle.message_fields.specs.Layout.{messageLength, types, addressWidth}
+use Rattle.refusals.specs.AnswerNumbers.{sliceTooShort, otherVersion, brokenField}
 
 -- ---- the fields
 
@@ -65,9 +66,9 @@ noFields =
 
 abbrev pub numberOf : Answer → ℕ
 numberOf Done = 0
-numberOf (Refused Short) = 10
-numberOf (Refused Version) = 11
-numberOf (Refused Field) = 12
+numberOf (Refused Short) = sliceTooShort
+numberOf (Refused Version) = otherVersion
+numberOf (Refused Field) = brokenField
 
 abbrev pub whenDone : {A : Type 0} → Answer → A → A → A
 whenDone Done x y = x

@@ -4,6 +4,10 @@ pub mod legal;
 
 ghost use mathlib.Core.Path.{_≡_};
 ghost use Rattle.message_fields.specs.Fields.{numberOf, noFields, refusedRead, lengthOf, followsAt};
+use refusals::BROKEN_FIELD;
+use refusals::DONE;
+use refusals::OTHER_VERSION;
+use refusals::SLICE_TOO_SHORT;
 
 // Where each field starts: it ends where the next one starts, and the last one where the message does.
 pub const VERSION_AT: usize = 0;
@@ -70,11 +74,11 @@ pub fn number_of(answer: Answer) -> u64
     ensures { λ r. ⌜ r ≡ numberOf answer ⌝ }
 {
     match answer {
-        Answer::Done => 0,
+        Answer::Done => DONE,
         Answer::Refused(why) => match why {
-            Refusal::Short => 10,
-            Refusal::Version => 11,
-            Refusal::Field => 12,
+            Refusal::Short => SLICE_TOO_SHORT,
+            Refusal::Version => OTHER_VERSION,
+            Refusal::Field => BROKEN_FIELD,
         },
     }
 }

@@ -1,6 +1,6 @@
--- Document 01's numbers for what a call on a space answers.
+-- Document 01's numbered refusals, and its number for what a call on a space answers.
 --
---   outOfRange .. sliceTooShort     the numbered refusals that calls on a space can give; success is 0
+--   outOfRange .. brokenField       the numbered refusals; success is 0. The last three are a message's, the first of them a listing's too
 --   noAddress                       the address answer of a refused call
 --   openNumber, allocateNumber, ..  the number of each case of each call's answer; notNamedNumber, notResizedNumber of each reason why a piece is
 --                                   not named, or keeps its size
@@ -54,6 +54,12 @@ tooLittleLeft = 9
 
 abbrev pub sliceTooShort : ℕ
 sliceTooShort = 10
+
+abbrev pub otherVersion : ℕ
+otherVersion = 11
+
+abbrev pub brokenField : ℕ
+brokenField = 12
 
 abbrev pub noAddress : ℕ
 noAddress = 2 ^ 64 - 1

@@ -1,2 +1,2 @@
--- What the calls on a space answer, in document 01's numbers.
+-- Document 01's numbered refusals, and what the calls on a space answer in them.
 pub mod AnswerNumbers

@@ -1,4 +1,4 @@
-// What the calls on a space answer: one case for each refusal that a call can give, and document 01's number for each case.
+// Document 01's numbered refusals, and what the calls on a space answer: one case for each refusal that a call can give, and its number.
 ghost use mathlib.Core.Path.{_≡_};
 ghost use Rattle.refusals.specs.AnswerNumbers.{openNumber, allocateNumber, addressOf, listNumber, countOf};
 ghost use Rattle.refusals.specs.AnswerNumbers.{notNamedNumber, releaseNumber, notResizedNumber, resizeNumber};
@@ -53,7 +53,8 @@ pub enum ListAnswer {
     SliceTooShort,
 }
 
-// Document 01's number for each answer: 0 where the call is accepted. Each refusal's number stands once, under its name.
+// Document 01's number for each answer: 0 where the call is accepted. Each refusal's number stands once, under its name; the last three are a
+// message's, the first of them a listing's too.
 pub const DONE: u64 = 0;
 
 pub const OUT_OF_RANGE: u64 = 1;
@@ -75,6 +76,10 @@ pub const NO_ROOM_BEHIND: u64 = 8;
 pub const TOO_LITTLE_LEFT: u64 = 9;
 
 pub const SLICE_TOO_SHORT: u64 = 10;
+
+pub const OTHER_VERSION: u64 = 11;
+
+pub const BROKEN_FIELD: u64 = 12;
 
 // The address answer of a refused call.
 pub const NO_ADDRESS: u64 = 18446744073709551615;
