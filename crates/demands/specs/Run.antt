@@ -2,26 +2,24 @@
 --
 --   Answer            document 01's column: an address, done, or the number of a refusal
 --   answered c sp w   what the call c answers
---   Row, row          the call of a step, its answer, and E after it
---   played cs sp w    the rows of the calls cs, each with the state and the words that the one before it left
+--   Step, step        the call of a step, its answer, and E after it
+--   played cs sp w    the steps of the calls cs, each with the state and the words that the one before it left
+--   callsOf ts        the calls of the steps ts
 --
---   callsOf rs        the calls of the rows rs
---
---   fiveSteps, fiveMore      steps 1 to 5, and 6 to 10
---   lastTwo                  steps 11 and 12
---   lastTwoExchanged         the same two, step 12 first, by way of E = 2,560
---   twelveSteps, exchangedSteps         all twelve, in either order of the last two
+--   twelveSteps              document 01's table
+--   fiveSteps                its first five
+--   exchangedSteps           the twelve with steps 11 and 12 exchanged
 --   leftAfterFive, leftAfterTwelve      refusals, state and every word after step 5 and after step 12
 --   begun w                  P = 512, M = 5,120, over the lent words w
---   playedOver w rs          what the calls of rs answer, and the end after each, from that opening on
---   ranOver w rs             what they leave
+--   playedOver w ts          what the calls of ts answer, and the end after each, from that opening on
+--   ranOver w ts             what they leave
 --
 -- Assumes nothing.
 use Prim.Native.Nat.{ℕ}
 use mathlib.Core.Bool.{cond}
 use mathlib.Core.List.{List, [], _∷_, _++_}
 use lib.Dec.{eqb}
-use lib.ListN.{replicate}
+use lib.ListN.{take, replicate}
 use Rattle.demands.specs.Calls.{Call, opens, allocates, releases, extends, shortens, called, Ran, ran}
 use Rattle.requests.specs.Requests.{metadataCode, rawCode}
 use Rattle.space.specs.Opening.{opened}
@@ -46,23 +44,23 @@ answered (releases a z) sp w = answerOf done (called (releases a z) sp w .refusa
 answered (extends a z m) sp w = answerOf done (called (extends a z m) sp w .refusal)
 answered (shortens a z k) sp w = answerOf done (called (shortens a z k) sp w .refusal)
 
-pub record Row : Type 0 where
+pub record Step : Type 0 where
   pub call : Call
   pub answer : Answer
   pub end : ℕ
 
-abbrev pub row : Call → Answer → ℕ → Row
-row c r e = record { call = c; answer = r; end = e }
+abbrev pub step : Call → Answer → ℕ → Step
+step c r e = record { call = c; answer = r; end = e }
 
-unfoldable pub played : List Call → Space → List ℕ → List Row
+unfoldable pub played : List Call → Space → List ℕ → List Step
 played [] sp w = []
 played (c ∷ cs) sp w =
     let o = called c sp w in
-    row c (answered c sp w) (o .state .end) ∷ played cs (o .state) (o .words)
+    step c (answered c sp w) (o .state .end) ∷ played cs (o .state) (o .words)
 
-unfoldable pub callsOf : List Row → List Call
+unfoldable pub callsOf : List Step → List Call
 callsOf [] = []
-callsOf (r ∷ rs) = r .call ∷ callsOf rs
+callsOf (t ∷ ts) = t .call ∷ callsOf ts
 
 -- ---- the run
 
@@ -72,35 +70,29 @@ metadata s = allocates metadataCode s
 abbrev raw : ℕ → Call
 raw s = allocates rawCode s
 
-abbrev pub fiveSteps : List Row
-fiveSteps =
-    row (metadata 96) (at 0) 512
-    ∷ row (raw 100) (at 512) 1024
-    ∷ row (metadata 416) (at 96) 1024
-    ∷ row (raw 700) (at 1024) 2048
-    ∷ row (metadata 10) (at 2048) 2560
+-- document 01's table
+abbrev pub twelveSteps : List Step
+twelveSteps =
+    step (metadata 96) (at 0) 512
+    ∷ step (raw 100) (at 512) 1024
+    ∷ step (metadata 416) (at 96) 1024
+    ∷ step (raw 700) (at 1024) 2048
+    ∷ step (metadata 10) (at 2048) 2560
+    ∷ step (releases 1024 700) done 2560
+    ∷ step (raw 512) (at 1024) 2560
+    ∷ step (extends 1024 512 512) done 2560
+    ∷ step (shortens 1024 1024 600) (refused 9) 2560
+    ∷ step (shortens 1024 1024 300) done 2560
+    ∷ step (releases 2048 10) done 2048
+    ∷ step (releases 1024 724) done 1024
     ∷ []
 
-abbrev pub fiveMore : List Row
-fiveMore =
-    row (releases 1024 700) done 2560
-    ∷ row (raw 512) (at 1024) 2560
-    ∷ row (extends 1024 512 512) done 2560
-    ∷ row (shortens 1024 1024 600) (refused 9) 2560
-    ∷ row (shortens 1024 1024 300) done 2560
-    ∷ []
+abbrev pub fiveSteps : List Step
+fiveSteps = take 5 twelveSteps
 
-abbrev pub lastTwo : List Row
-lastTwo = row (releases 2048 10) done 2048 ∷ row (releases 1024 724) done 1024 ∷ []
-
-abbrev pub lastTwoExchanged : List Row
-lastTwoExchanged = row (releases 1024 724) done 2560 ∷ row (releases 2048 10) done 1024 ∷ []
-
-abbrev pub twelveSteps : List Row
-twelveSteps = fiveSteps ++ (fiveMore ++ lastTwo)
-
-abbrev pub exchangedSteps : List Row
-exchangedSteps = fiveSteps ++ (fiveMore ++ lastTwoExchanged)
+-- steps 11 and 12 exchanged, by way of E = 2,560
+abbrev pub exchangedSteps : List Step
+exchangedSteps = take 10 twelveSteps ++ (step (releases 1024 724) done 2560 ∷ step (releases 2048 10) done 1024 ∷ [])
 
 -- ---- state and words, after step 5 and after step 12
 
@@ -128,8 +120,8 @@ leftAfterTwelve =
 abbrev pub begun : List ℕ → Outcome
 begun w = opened 512 5120 w
 
-abbrev pub playedOver : List ℕ → List Row → List Row
-playedOver w rs = played (callsOf rs) (begun w .state) (begun w .words)
+abbrev pub playedOver : List ℕ → List Step → List Step
+playedOver w ts = played (callsOf ts) (begun w .state) (begun w .words)
 
-abbrev pub ranOver : List ℕ → List Row → Ran
-ranOver w rs = ran (callsOf rs) (begun w .state) (begun w .words)
+abbrev pub ranOver : List ℕ → List Step → Ran
+ranOver w ts = ran (callsOf ts) (begun w .state) (begun w .words)
