@@ -7,6 +7,7 @@ pub mod Edits
 pub mod Placing
 pub mod ConditionLaws
 pub mod Exactly
+pub mod Listings
 pub mod AnyOrder
 pub mod Run
 pub mod OneResult

@@ -29,6 +29,7 @@ use Rattle.refusals.specs.declared.NotNamed.the-variants.{NoBytes}
 use Rattle.refusals.specs.declared.NotResized.the-variants.{NoRoomBehind, BeyondLimit, TooLittleLeft}
 use Rattle.room.specs.Room.{roomBehindb, growsBeyondb, remainsb}
 use Rattle.space.proofs.GiveLaws.{naming-unsound, released-naming, resized-naming}
+use Rattle.space.proofs.ListLaws.{listed-unsound}
 use Rattle.space.proofs.OpenLaws.{nowhere-unsound}
 use Rattle.space.proofs.PlaceLaws.{allocated-unsound}
 use Rattle.space.specs.Giving.{namedAs, namedIn, whenNamed, naming, releasedAt, released}
@@ -160,6 +161,9 @@ nowhere-calls c w (releasing {a = a} {z = z}) = nowhere-naming w _ a z _ _ (rele
 nowhere-calls c w (extending {a = a} {z = z} {m = m}) = nowhere-naming w _ a z _ _ (resized-naming nowhere a z Longer m w refl)
 nowhere-calls c w (shortening {a = a} {z = z} {k = k}) = nowhere-naming w _ a z _ _ (resized-naming nowhere a z Shorter k w refl)
 
+nowhere-list : (m : ℕ) (w v : List ℕ) → listed nowhere m w v .refusal ≡ notSound
+nowhere-list m w v = ap (λ (o : ListOutcome). o .refusal) (listed-unsound nowhere m w v (nowhere-unsound w))
+
 -- ---- the address answer
 
 -- accepted, or no address
@@ -228,4 +232,5 @@ refusals =
       count = λ sp m w v n. no-count sp m w v (listing-counted sp m w v) n;
       same-state = λ sp m w v. counted-state sp m w v (listing-counted sp m w v);
       nowhere-refused = nowhere-calls;
+      nowhere-listed = nowhere-list;
     }

@@ -6,6 +6,7 @@
 --   NewBytes        a new piece, and what an extend adds, lies in bytes that were in no live piece
 --   Placing         the place is the smallest fitting section, the lowest of equals, else the end; there is one such place
 --   Exactly         each refusal is given exactly when the table of numbered refusals says, in its order
+--   Listings        an accepted listing writes the free sections of the manager, all of them and no other, in address order
 --   Runs            from an accepted opening on every run of calls keeps state and table sound
 --   AnyOrder        demand 3: releases in any order are all accepted, and end with the state and the words that the pieces left determine
 --   TwoOrders       the same said of two orders side by side, as crane and server see it
@@ -20,6 +21,7 @@
 --   KeptSound sp w next v   next and v are sound together and cover the file, with P, M and the slice's length of sp and w
 --   Accepted c sp w         the call c is accepted of a sound table
 --   NotLive sp w a b        the bytes from a up to b are in no live piece
+--   ListedAll sp m w v      a listing wrote address and size of each free section of the manager, in address order, and returns their count
 --   Releasable sp w ns      state and table are sound together, and ns are distinct live pieces by their true address and size
 --   acceptedAll sp w k ps   k calls are accepted, and leave the state and every word that the live pieces ps determine
 --   RunOver w               the run, over a table of the words w
@@ -39,8 +41,10 @@ use Rattle.pieces.specs.Words.{entryAt, table}
 use Rattle.pieces.specs.declared.Class.{Class}
 use Rattle.pieces.specs.declared.Piece.{Piece}
 use Rattle.refusals.specs.AnswerNumbers.{notSound, noAddress}
-use Rattle.requests.specs.Requests.{classFor}
+use Rattle.requests.specs.Requests.{classFor, classOfManager}
 use Rattle.rules.specs.Editing.{Name}
+use Rattle.sections.specs.Order.{SectionsOf}
+use Rattle.sections.specs.Sections.{listWords}
 use Rattle.space.specs.Giving.{released, extended, shortened}
 use Rattle.space.specs.Listing.{ListOutcome, listed}
 use Rattle.space.specs.Opening.{nowhere, opened, defaultPage, defaultLimit}
@@ -72,6 +76,7 @@ pub record Refusals : Type 0 where
   pub same-state : (sp : Space) (m : ℕ) (w v : List ℕ) → listed sp m w v .state ≡ sp
   -- the state of a refused opening is refused with 2 by every call that takes a state
   pub nowhere-refused : (c : Call) (w : List ℕ) → OnSpace c → called c nowhere w .refusal ≡ notSound
+  pub nowhere-listed : (m : ℕ) (w v : List ℕ) → listed nowhere m w v .refusal ≡ notSound
 
 -- ---- demand 2
 
@@ -125,6 +130,16 @@ pub record Exactly : Type 0 where
   -- and a row allows one number
   pub one : (c : Call) (sp : Space) (w : List ℕ) (r r' : ℕ) → Row c sp w r → Row c sp w r' → r ≡ r'
   pub one-listing : (sp : Space) (m : ℕ) (w v : List ℕ) (r r' : ℕ) → ListRow sp m w v r → ListRow sp m w v r' → r ≡ r'
+
+-- the words of the lent list slice: the pairs of the sections, and behind them as they came
+pub record ListedAll (sp : Space) (m : ℕ) (w v : List ℕ) : Type 0 where
+  pub sections : List Piece
+  pub are : SectionsOf (classOfManager m) (entriesOf sp w) sections
+  pub count : listed sp m w v .count ≡ length sections
+  pub words : listed sp m w v .words ≡ listWords v sections
+
+abbrev pub Listings : Type 0
+Listings = (sp : Space) (m : ℕ) (w v : List ℕ) → listed sp m w v .refusal ≡ 0 → ListedAll sp m w v
 
 abbrev pub Runs : Type 0
 Runs =

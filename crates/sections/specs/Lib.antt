@@ -1,2 +1,3 @@
 -- What a listing writes.
 pub mod Sections
+pub mod Order
