@@ -11,3 +11,4 @@ pub mod Listings
 pub mod AnyOrder
 pub mod Run
 pub mod OneResult
+pub mod Signed

@@ -4,3 +4,4 @@ pub mod Calls
 pub mod Run
 pub mod Rows
 pub mod Demands
+pub mod Signed

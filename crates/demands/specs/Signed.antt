@@ -1,0 +1,41 @@
+-- All that the customer signs on, as one record: each field is a statement, and proofs/Signed.antt proves the record. So a statement without a
+-- proof does not pass the check; docs/PROMISES.md has for each field an edit that its proof refuses.
+--
+-- The statements: those on the calls in Demands.antt, those on tables in table/specs/Theorems.antt, document 01's rules read literally in
+-- literal/specs/Statements.antt, those on the message in message/specs/Promises.antt.
+--
+-- Assumes nothing.
+use Rattle.demands.specs.Demands.{Refusals, Keeps, Edits, NewBytes, Placing, Exactly, Listings, Runs, AnyOrder, TwoOrders, TheRun, OneResult}
+use Rattle.literal.specs.Statements.{Allocating, Releasing}
+use Rattle.message.specs.Promises.{ReadExact, RestExact, WriteExact, Accepted, RoundTrip, Unique}
+use Rattle.table.specs.Theorems.{Determined, OneTable}
+
+pub record Signed : Type 0 where
+  -- demand 1: any numbers and any lent table get an answer; a refused call changes no state and writes into no lent memory
+  pub refusals : Refusals
+  -- demand 2: places, free sections and end of file are those of document 01; live and free pieces cover the file
+  pub keeps : Keeps
+  pub runs : Runs
+  pub edits : Edits
+  pub new-bytes : NewBytes
+  pub placing : Placing
+  pub exactly : Exactly
+  pub listings : Listings
+  pub the-run : TheRun
+  -- document 01's own sentences give the same table and end
+  pub allocating : Allocating
+  pub releasing : Releasing
+  -- the message is written and read back to equal fields and equal bytes
+  pub read-exact : ReadExact
+  pub rest-exact : RestExact
+  pub write-exact : WriteExact
+  pub acceptance : Accepted
+  pub round-trip : RoundTrip
+  pub one-meaning : Unique
+  -- demand 3: releases in any order end with the one table and end of file that the pieces still live determine
+  pub any-order : AnyOrder
+  pub two-orders : TwoOrders
+  pub determined : Determined
+  pub one-table : OneTable
+  -- each call's promise allows one result
+  pub one-result : OneResult
