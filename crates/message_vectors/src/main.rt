@@ -1,5 +1,5 @@
-// Holds the message against outside bytes. data/hdf5-messages.txt is shared/vectors/hdf5-messages.txt: messages cut out of files that HDF5
-// 1.10.8 wrote, with their fields. Each line of the output is a claim, with what is expected in it; what was found stands before it where it
+// Holds the message against outside bytes. data/hdf5-messages.txt is the customer's file: messages cut out of files that HDF5 1.10.8
+// wrote, with their fields. Each line of the output is a claim, with what is expected in it; what was found stands before it where it
 // fails.
 mod cases;
 mod damage;
