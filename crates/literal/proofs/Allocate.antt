@@ -18,7 +18,7 @@ use Rattle.choose.specs.declared.Chosen.{Chosen}
 use Rattle.choose.specs.declared.place.Place.{Place}
 use Rattle.literal.proofs.AllocateLaws.{in-place-split, Replaces, in-place-chain, Grant, grant-large, grant-page, into-large, at-end, into-small}
 use Rattle.literal.proofs.ChangedChains.{lives-only-free, file-of-chain}
-use Rattle.literal.specs.Steps.{inPlaceOf, intoLarge, atEnd, largeRule, largePiece, intoSmall, smallPage, allocatedSmall, allocated}
+use Rattle.literal.specs.Steps.{inPlaceOf, intoLarge, atEnd, largeRule, largePiece, intoSmall, smallPage, afterAllocatingSmall, afterAllocating}
 use Rattle.pages.proofs.PageLaws.{borders, up-border}
 use Rattle.pages.specs.Pages.{up, Border}
 use Rattle.pieces.proofs.PieceLaws.{small, large, entry-split}
@@ -121,14 +121,14 @@ module _ (P : ℕ) (pos : 0 < P) where
   chosen {E} {es} c k s = let h = rules-of P pos c in best-place (fitsIn P k s) E 0 es (h .filled) (h .tiling) .is
 
   large-chain : {E s : ℕ} {es : List Piece} → Chain P E es → P ≤ s → AllocatingIn P E Large s es
-  unfolding allocated placeFor largePlaceFor
+  unfolding afterAllocating placeFor largePlaceFor
   large-chain {E} {s} {es} c h =
       rule-placed c s (largePiece s) (λ b. piece b s (Live Large)) (Live Large) (λ b bo. grant-large P pos bo h) (lives-large-piece s)
       (best (fitsIn P Large s) 0 Nothing es) (chosen c Large s)
 
   module _ {E s : ℕ} {k : Class} {es : List Piece} (c : Chain P E es) (t : Small k) (some : 0 < s) (less : s < P) where
     abbrev SmallDone : Place → Type 0
-    SmallDone q = FileOf P (allocatedSmall P E k s es q) (insert (piece (placeAddress E q) s (Live k)) (lives es))
+    SmallDone q = FileOf P (afterAllocatingSmall P E k s es q) (insert (piece (placeAddress E q) s (Live k)) (lives es))
 
     page-rule : (r : Chosen) → Best (λ x. fitsIn P Large P x ≡ true) es r
         → FileOf P (largeRule P E P (smallPage P k s) es (inLarge P r)) (insert (piece (placeAddress E (inLarge P r)) s (Live k)) (lives es))
@@ -136,12 +136,12 @@ module _ (P : ℕ) (pos : 0 < P) where
         rule-placed c P (smallPage P k s) (λ b. piece b s (Live k)) (Free k) (λ b bo. grant-page P pos bo t some less) (lives-small-page P k s)
 
     page-placed : (r : Chosen) → Best (λ x. fitsIn P Large P x ≡ true) es r → SmallDone (asPage (inLarge P r))
-    unfolding allocatedSmall largeRule
+    unfolding afterAllocatingSmall largeRule
     page-placed Nothing h = page-rule Nothing h
     page-placed (At i x) h = page-rule (At i x) h
 
     small-placed : (q : Place) → SmallDone q → (r : Chosen) → Best (λ x. fitsIn P k s x ≡ true) es r → SmallDone (inSmall q r)
-    unfolding allocatedSmall
+    unfolding afterAllocatingSmall
     small-placed q d Nothing h = d
     small-placed q d (At i x) h =
         let f = fits-small P k t s x (h .fitting) in
@@ -155,7 +155,7 @@ module _ (P : ℕ) (pos : 0 < P) where
         (best (fitsIn P k s) 0 Nothing es) (chosen c k s)
 
   pub allocated-chain : {E : ℕ} {k : Class} {s : ℕ} {es : List Piece} → Chain P E es → Request P k s → AllocatingIn P E k s es
-  unfolding allocated placeFor
+  unfolding afterAllocating placeFor
   allocated-chain {k = SmallMetadata} c r = small-chain c metadata (r .some) (r .small metadata)
   allocated-chain {k = SmallRaw} c r = small-chain c raw (r .some) (r .small raw)
   allocated-chain {k = Large} c r = large-chain c (r .large refl)

@@ -18,8 +18,8 @@ use Rattle.table.specs.Fill.{free}
 use Rattle.choose.specs.Choose.{roomIn, fitsIn, bestOf, best}
 use Rattle.choose.specs.Place.{largePlaceFor, smallPlaceFor, placeFor}
 use Rattle.rules.specs.Editing.{Name}
-use Rattle.literal.specs.Steps.{File, atEnd, largeRule, smallPage, allocatedSmall, allocated}
-use Rattle.literal.specs.Steps.{merges, mergedBefore, mergedBehind, merged, emptied, cut, releasedAt, releasedFrom, released}
+use Rattle.literal.specs.Steps.{File, atEnd, largeRule, smallPage, afterAllocatingSmall, afterAllocating}
+use Rattle.literal.specs.Steps.{merges, mergedBefore, mergedBehind, merged, emptied, cut, freedAt, afterReleasingFrom, afterReleasing}
 
 abbrev name : ℕ → ℕ → Name
 name a z = record { address = a; size = z }
@@ -41,19 +41,19 @@ abbrev afterTen : List Piece
 afterTen =
     four ++ (piece 1024 724 (Live Large) ∷ piece 1748 300 (Free Large) ∷ piece 2048 10 (Live SmallMetadata) ∷ piece 2058 502 (Free SmallMetadata) ∷ [])
 
-step-five : allocated 512 2048 SmallMetadata 10 afterFour (placeFor 512 SmallMetadata 10 afterFour) ≡ file afterFive 2560
-unfolding allocated allocatedSmall largeRule atEnd smallPage free up placeFor smallPlaceFor largePlaceFor best bestOf fitsIn roomIn
+step-five : afterAllocating 512 2048 SmallMetadata 10 afterFour (placeFor 512 SmallMetadata 10 afterFour) ≡ file afterFive 2560
+unfolding afterAllocating afterAllocatingSmall largeRule atEnd smallPage free up placeFor smallPlaceFor largePlaceFor best bestOf fitsIn roomIn
 step-five = refl
 
-step-six : released 512 2560 (name 1024 700) afterFive
+step-six : afterReleasing 512 2560 (name 1024 700) afterFive
     ≡ file (four ++ (piece 1024 1024 (Free Large) ∷ piece 2048 10 (Live SmallMetadata) ∷ piece 2058 502 (Free SmallMetadata) ∷ [])) 2560
-unfolding released releasedFrom releasedAt cut emptied merged mergedBefore mergedBehind merges free
+unfolding afterReleasing afterReleasingFrom freedAt cut emptied merged mergedBefore mergedBehind merges free
 step-six = refl
 
-step-eleven : released 512 2560 (name 2048 10) afterTen ≡ file (four ++ (piece 1024 724 (Live Large) ∷ piece 1748 300 (Free Large) ∷ [])) 2048
-unfolding released releasedFrom releasedAt cut emptied merged mergedBefore mergedBehind merges free
+step-eleven : afterReleasing 512 2560 (name 2048 10) afterTen ≡ file (four ++ (piece 1024 724 (Live Large) ∷ piece 1748 300 (Free Large) ∷ [])) 2048
+unfolding afterReleasing afterReleasingFrom freedAt cut emptied merged mergedBefore mergedBehind merges free
 step-eleven = refl
 
-step-twelve : released 512 2048 (name 1024 724) (four ++ (piece 1024 724 (Live Large) ∷ piece 1748 300 (Free Large) ∷ [])) ≡ file four 1024
-unfolding released releasedFrom releasedAt cut emptied merged mergedBefore mergedBehind merges free
+step-twelve : afterReleasing 512 2048 (name 1024 724) (four ++ (piece 1024 724 (Live Large) ∷ piece 1748 300 (Free Large) ∷ [])) ≡ file four 1024
+unfolding afterReleasing afterReleasingFrom freedAt cut emptied merged mergedBefore mergedBehind merges free
 step-twelve = refl

@@ -13,7 +13,8 @@ use lib.Dec.{eqb}
 use borrow.Author.Tests.{eqb-true, eq-eqb}
 use Rattle.literal.proofs.ChangedChains.{chain-end, chain-last, nearest, Upto, start, add, upto-chain, lives-only-free, lives-around, file-of-chain}
 use Rattle.literal.proofs.MergeLaws.{chain-free, Open, merged-open, Settled, emptied-merged}
-use Rattle.literal.specs.Steps.{Freed, becomesFree, merged, emptied, wholePages, cutFile, keptFile, cut, releasedAt, isNamed, releasedFrom, released}
+use Rattle.literal.specs.Steps.{Freed, becomesFree, merged, emptied, wholePages, cutFile, keptFile, cut, freedAt}
+use Rattle.literal.specs.Steps.{isNamed, afterReleasingFrom, afterReleasing}
 use Rattle.pages.proofs.Numbers.{not-both}
 use Rattle.pages.proofs.PageLaws.{down-le, down-lt, down-border, up-in, up-border, up-ge, up-lt, border-difference}
 use Rattle.pages.specs.Pages.{down, up, Border}
@@ -125,8 +126,8 @@ module _ (P : ℕ) (pos : 0 < P) where
       }
 
   released-at : {E a z : ℕ} {k : Class} {ls ys : List Piece} → Upto P a ls → Entry P (nearest ls) a z (Live k) ys
-      → ChainFrom P E (Live k) (a + z) ys → FileOf P (releasedAt P E ls (piece a z (Live k)) ys) (lives (reverseAux ls ys))
-  unfolding releasedAt
+      → ChainFrom P E (Live k) (a + z) ys → FileOf P (freedAt P E ls (piece a z (Live k)) ys) (lives (reverseAux ls ys))
+  unfolding freedAt
   released-at {a = a} {z = z} {k = k} {ls = ls} {ys = ys} u e r =
       let f : Freed = becomesFree ls (piece a z (Live k)) ys in
       cut-settled (emptied P (merged P f)) (emptied-merged P pos (merged P f) (merged-open P pos f (becomes-free u e r)))
@@ -152,8 +153,8 @@ module _ (P : ℕ) (pos : 0 < P) where
   holds (List·Memᴰ·tail m) q h = there (holds m q h)
 
   released-from : {E a : ℕ} {ls es : List Piece} (n : Name) → Upto P a ls → ChainFrom P E (nearest ls) a es
-      → Good P (lives (reverseAux ls es)) → Holds n es → FileOf P (releasedFrom P E n ls es) (remove n (lives (reverseAux ls es)))
-  unfolding releasedFrom
+      → Good P (lives (reverseAux ls es)) → Holds n es → FileOf P (afterReleasingFrom P E n ls es) (remove n (lives (reverseAux ls es)))
+  unfolding afterReleasingFrom
   released-from {E} {ls = ls} n u (step {t = t} {a = a} {n = z} {es = ys} e r) g h =
       go t e r g h (λ j. released-from n (add u e) r g j) (isNamed n (piece a z t)) refl
     where
@@ -162,9 +163,9 @@ module _ (P : ℕ) (pos : 0 < P) where
       left t = remove n (lives (reverseAux ls (piece a z t ∷ ys)))
 
       go : (t : Status) → Entry P (nearest ls) a z t ys → ChainFrom P E t (a + z) ys → Good P (lives (reverseAux ls (piece a z t ∷ ys)))
-          → Holds n (piece a z t ∷ ys) → (Holds n ys → FileOf P (releasedFrom P E n (piece a z t ∷ ls) ys) (left t))
+          → Holds n (piece a z t ∷ ys) → (Holds n ys → FileOf P (afterReleasingFrom P E n (piece a z t ∷ ls) ys) (left t))
           → (v : Bool) → isNamed n (piece a z t) ≡ v
-          → FileOf P (cond v (releasedAt P E ls (piece a z t) ys) (releasedFrom P E n (piece a z t ∷ ls) ys)) (left t)
+          → FileOf P (cond v (freedAt P E ls (piece a z t) ys) (afterReleasingFrom P E n (piece a z t ∷ ls) ys)) (left t)
       go (Live k) e r g h f true i = rw (removed n a z k ls ys g i) (released-at u e r)
       go (Free k) e r g h f true i = absurd (not-both i refl)
       go t e r g (here j) f false i = absurd (not-both j i)
@@ -172,5 +173,5 @@ module _ (P : ℕ) (pos : 0 < P) where
 
   pub released-chain : {E : ℕ} {k : Class} {x : Piece} {es : List Piece} (n : Name) → Chain P E es → List·Memᴰ x es → x .status ≡ Live k
       → names n x ≡ true → ReleasingIn P E n es
-  unfolding released
+  unfolding afterReleasing
   released-chain n c m q h = released-from n start c (canonical pos c .2) (holds m q h)

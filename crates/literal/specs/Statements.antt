@@ -22,7 +22,7 @@ use Rattle.table.specs.Fill.{lives, fill, endOf}
 use Rattle.table.specs.Sound.{Sound}
 use Rattle.choose.specs.Place.{placeFor, placeAddress}
 use Rattle.rules.specs.Editing.{Name, names, insert, remove}
-use Rattle.literal.specs.Steps.{File, allocated, released}
+use Rattle.literal.specs.Steps.{File, afterAllocating, afterReleasing}
 
 pub record Request (P : ℕ) (k : Class) (s : ℕ) : Type 0 where
   pub some : 1 ≤ s
@@ -36,14 +36,14 @@ pub record FileOf (P : ℕ) (f : File) (ps : List Piece) : Type 0 where
 abbrev pub AllocatingIn : ℕ → ℕ → Class → ℕ → List Piece → Type 0
 AllocatingIn P E k s es =
     let q = placeFor P k s es in
-    FileOf P (allocated P E k s es q) (insert (piece (placeAddress E q) s (Live k)) (lives es))
+    FileOf P (afterAllocating P E k s es q) (insert (piece (placeAddress E q) s (Live k)) (lives es))
 
 abbrev pub Allocating : Type 0
 Allocating =
     (P M E n : ℕ) (w : List ℕ) (k : Class) (s : ℕ) → Sound P M E n w → Request P k s → AllocatingIn P E k s (entries w 0 n)
 
 abbrev pub ReleasingIn : ℕ → ℕ → Name → List Piece → Type 0
-ReleasingIn P E n es = FileOf P (released P E n es) (remove n (lives es))
+ReleasingIn P E n es = FileOf P (afterReleasing P E n es) (remove n (lives es))
 
 abbrev pub Releasing : Type 0
 Releasing =

@@ -13,7 +13,7 @@
 --   largePiece s b             what a large piece makes of its bytes: it takes them all
 --   intoSmall k s x            a small piece goes to the start of the free small entry x; the rest stays free
 --   smallPage P k s b          what a small piece makes of a page: it goes to its start; the rest is free small of its type
---   allocatedSmall, allocated  the file after s bytes of class k were allocated
+--   afterAllocatingSmall, afterAllocating   the file after s bytes of class k were allocated
 --
 -- Releasing:
 --
@@ -29,10 +29,10 @@
 --   endsFile E f               the freed entry is kind 6 and ends at E
 --   wholePages P z             how many whole pages z bytes contain
 --   cutFile, keptFile, cut     the file with whole pages cut from its end; with none cut; the one or the other
---   releasedAt P E ls x ys     the file after the piece x, between ls and ys, was released
+--   freedAt P E ls x ys        the file after the piece x, between ls and ys, became free
 --   isNamed n x                x is live and has this name
---   releasedFrom P E n ls es   the file after the piece of this name, one of es, was released; the entries ls stand before es
---   released P E n es          the same, of a whole table. A name that no live piece has changes nothing: the call refuses it
+--   afterReleasingFrom P E n ls es   the file after the piece of this name, one of es, was released; the entries ls stand before es
+--   afterReleasing P E n es          the same, of a whole table. A name that no live piece has changes nothing: the call refuses it
 --
 -- Not here: extending and shortening. Assumes nothing. What is proved of these is in Statements.antt.
 use mathlib.Core.Bool.{Bool, false, cond, not, _&&_, _||_}
@@ -93,15 +93,15 @@ unfoldable pub smallPage : ℕ → Class → ℕ → ℕ → List Piece
 smallPage P k s b = piece b s (Live k) ∷ free k (b + s) (b + P)
 
 -- 'If none fits, one page is obtained by the large rule for a request of P.'
-unfoldable pub allocatedSmall : ℕ → ℕ → Class → ℕ → List Piece → Place → File
-allocatedSmall P E k s es (Section i b) = record { entries = inPlaceOf i (intoSmall k s) es; end = E }
-allocatedSmall P E k s es (Page i b) = largeRule P E P (smallPage P k s) es (Page i b)
-allocatedSmall P E k s es End = largeRule P E P (smallPage P k s) es End
+unfoldable pub afterAllocatingSmall : ℕ → ℕ → Class → ℕ → List Piece → Place → File
+afterAllocatingSmall P E k s es (Section i b) = record { entries = inPlaceOf i (intoSmall k s) es; end = E }
+afterAllocatingSmall P E k s es (Page i b) = largeRule P E P (smallPage P k s) es (Page i b)
+afterAllocatingSmall P E k s es End = largeRule P E P (smallPage P k s) es End
 
-unfoldable pub allocated : ℕ → ℕ → Class → ℕ → List Piece → Place → File
-allocated P E SmallMetadata s es q = allocatedSmall P E SmallMetadata s es q
-allocated P E SmallRaw s es q = allocatedSmall P E SmallRaw s es q
-allocated P E Large s es q = largeRule P E s (largePiece s) es q
+unfoldable pub afterAllocating : ℕ → ℕ → Class → ℕ → List Piece → Place → File
+afterAllocating P E SmallMetadata s es q = afterAllocatingSmall P E SmallMetadata s es q
+afterAllocating P E SmallRaw s es q = afterAllocatingSmall P E SmallRaw s es q
+afterAllocating P E Large s es q = largeRule P E s (largePiece s) es q
 
 -- ---- releasing
 
@@ -172,16 +172,16 @@ unfoldable pub cut : ℕ → ℕ → Freed → File
 cut P E f = cond (endsFile E f) (cutFile P E f) (keptFile E f)
 
 -- the steps in document 01's order
-unfoldable pub releasedAt : ℕ → ℕ → List Piece → Piece → List Piece → File
-releasedAt P E ls x ys = cut P E (emptied P (merged P (becomesFree ls x ys)))
+unfoldable pub freedAt : ℕ → ℕ → List Piece → Piece → List Piece → File
+freedAt P E ls x ys = cut P E (emptied P (merged P (becomesFree ls x ys)))
 
 -- 'Each names a live piece by its exact address and size.'
 abbrev pub isNamed : Name → Piece → Bool
 isNamed n x = not (freeb (x .status)) && names n x
 
-unfoldable pub releasedFrom : ℕ → ℕ → Name → List Piece → List Piece → File
-releasedFrom P E n ls [] = record { entries = putBack ls []; end = E }
-releasedFrom P E n ls (x ∷ ys) = cond (isNamed n x) (releasedAt P E ls x ys) (releasedFrom P E n (x ∷ ls) ys)
+unfoldable pub afterReleasingFrom : ℕ → ℕ → Name → List Piece → List Piece → File
+afterReleasingFrom P E n ls [] = record { entries = putBack ls []; end = E }
+afterReleasingFrom P E n ls (x ∷ ys) = cond (isNamed n x) (freedAt P E ls x ys) (afterReleasingFrom P E n (x ∷ ls) ys)
 
-unfoldable pub released : ℕ → ℕ → Name → List Piece → File
-released P E n es = releasedFrom P E n [] es
+unfoldable pub afterReleasing : ℕ → ℕ → Name → List Piece → File
+afterReleasing P E n es = afterReleasingFrom P E n [] es
