@@ -17,7 +17,7 @@ use Rattle.accepted.proofs.AmongLaws.{lives-entry}
 use Rattle.accepted.proofs.EditedLaws.{IsOr, is-it, is-old, in-insert, in-remove, ResizedOr, is-resized, is-kept, in-resize, end-within}
 use Rattle.accepted.proofs.KeptLaws.{tabled}
 use Rattle.accepted.proofs.LongerLaws.{found-stands, From, from, room-less, less-whole, room-more, more-reach, Longer, longer}
-use Rattle.accepted.proofs.PlaceRule.{mem-below, class-of-large, PlaceFound, inside, outside, place-found}
+use Rattle.accepted.proofs.PlaceRule.{class-of-large, PlaceFound, inside, outside, place-found}
 use Rattle.accepted.proofs.PlaceRule.{pos as goes-pos, Goes, page-within, section-goes, end-goes}
 use Rattle.accepted.specs.Places.{PlaceIs, in-section, at-the-end}
 use Rattle.choose.specs.Place.{placeFor, placeAddress}
@@ -55,6 +55,7 @@ use Rattle.space.specs.declared.give.Way.{Way}
 use Rattle.space.specs.declared.give.Way.the-variants as way
 use Rattle.table.proofs.ChainLaws.{chain-le}
 use Rattle.table.proofs.Theorems.{sound-chain, sound-good}
+use Rattle.table.proofs.TilingLaws.{mem-below}
 use Rattle.table.specs.Fill.{fill, endOf, Good}
 use Rattle.table.specs.Sound.{capacity}
 

@@ -37,13 +37,8 @@ use Rattle.requests.proofs.RequestLaws.{class-metadata, class-raw}
 use Rattle.space.specs.Outcomes.{SoundSpace, entriesOf}
 use Rattle.requests.specs.Requests.{metadataCode, classFor}
 use Rattle.space.specs.declared.Space.{Space}
-use Rattle.table.proofs.TilingLaws.{tiles-from}
+use Rattle.table.proofs.TilingLaws.{mem-below}
 use Rattle.table.specs.Fill.{Whole}
-use Rattle.table.specs.Sound.{Tiles, tile}
-
-pub mem-below : {E a : ℕ} {es : List Piece} {x : Piece} → Tiles E a es → List·Memᴰ x es → behind x ≤ E
-mem-below (tile {a = a} {z = z} t) (List·Memᴰ·head e) = omega (arith, tiles-from t, ap behind e)
-mem-below (tile t) (List·Memᴰ·tail h) = mem-below t h
 
 -- ---- the request's class
 

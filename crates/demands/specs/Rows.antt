@@ -3,32 +3,31 @@
 --   Given r k when rest        the number r of an answer is k if `when` holds, and else the rest decides
 --   UnknownType t, UnknownManager m     the code is none of the known ones
 --   ZeroAsked z m              the size or the change is 0
---   RoomBehind sp w a z m c    the stated room for m bytes behind a piece of class c that has z bytes at a
---   HasRoom sp w a z m         a live piece of z bytes at a has that room
---   Remains P c z k            enough remains of a piece of class c and z bytes without k
---   HasLeft sp w a z k         a live piece of z bytes at a has that much
+--   HasRoom sp w a z m         a live piece of z bytes at a has the stated room for m bytes behind it
+--   HasLeft sp w a z k         enough remains of a live piece of z bytes at a without k
 --   LastLarge sp w a z         a live large piece of z bytes at a is the last of the file
 --   TooMany sp w ps            the table that the live pieces ps determine needs more than C entries
 --   FullThere sp w t s         so it is with the new piece at the rule's place
 --   Row c sp w r               the row of the call c: its answer has the number r
 --   ListRow sp m w v r         the row of a listing
 --
--- Assumes nothing.
-use Prim.Native.Nat.{ℕ, _+_, _-_, _*_, _≤_, _<_}
+-- `RoomBehind` and `Remains`, which 8 and 9 ask for, are in room/specs/Conditions.antt. Assumes nothing.
+use Prim.Native.Nat.{ℕ, _+_, _-_, _*_, _<_}
 use mathlib.Core.List.{List, List·Memᴰ}
 use mathlib.Core.Path.{_≡_}
 use lib.ListN.{length}
 use Rattle.accepted.specs.Places.{NoSection, PlaceIs}
 use Rattle.demands.specs.Calls.{Call, opens, allocates, releases, extends, shortens, IsLive}
-use Rattle.pages.specs.Pages.{Border, up}
-use Rattle.pieces.specs.Pieces.{piece, Small, IsFree}
+use Rattle.pages.specs.Pages.{up}
+use Rattle.pieces.specs.Pieces.{piece}
 use Rattle.pieces.specs.declared.Class.the-variants.{Large}
 use Rattle.pieces.specs.declared.Class.{Class}
 use Rattle.pieces.specs.declared.Piece.{Piece}
-use Rattle.pieces.specs.declared.Status.the-variants.{Live, Free}
+use Rattle.pieces.specs.declared.Status.the-variants.{Live}
 use Rattle.refusals.specs.AnswerNumbers.{outOfRange, notSound, unknownCode, zeroAsked, beyondLimit, tableFull}
 use Rattle.refusals.specs.AnswerNumbers.{notLive, noRoomBehind, tooLittleLeft, sliceTooShort}
 use Rattle.requests.specs.Requests.{metadataCode, rawCode, largeCode, classFor, classOfManager}
+use Rattle.room.specs.Conditions.{RoomBehind, Remains}
 use Rattle.rules.specs.Editing.{insert, remove, resize}
 use Rattle.sections.specs.Sections.{sections, pairWords}
 use Rattle.space.specs.Giving.{nameOf}
@@ -55,23 +54,12 @@ pub data ZeroAsked (z m : ℕ) : Type 0 where
   no-size : z ≡ 0 → ZeroAsked z m
   no-change : m ≡ 0 → ZeroAsked z m
 
--- 8: a free entry directly behind it, for a small piece in the page, with at least m bytes, and a small piece stays below P; a large one
--- at the file's end has room for any m
-pub data RoomBehind (sp : Space) (w : List ℕ) (a z m : ℕ) : Class → Type 0 where
-  small-room : {c : Class} {y : Piece} → Small c → List·Memᴰ y (entriesOf sp w) → y .address ≡ a + z → IsFree (y .status)
-      → (Border (sp .page) (a + z) → ⊥) → m ≤ y .size → z + m < sp .page → RoomBehind sp w a z m c
-  large-room : {y : Piece} → List·Memᴰ y (entriesOf sp w) → y .address ≡ a + z → y .status ≡ Free Large → m ≤ y .size → RoomBehind sp w a z m Large
-  room-at-end : a + z ≡ sp .end → RoomBehind sp w a z m Large
-
+-- 8
 pub record HasRoom (sp : Space) (w : List ℕ) (a z m : ℕ) : Type 0 where
   pub live : IsLive (entriesOf sp w) (nameOf a z)
-  pub room : RoomBehind sp w a z m (live .named .class)
+  pub room : RoomBehind (sp .page) (sp .end) (entriesOf sp w) a z m (live .named .class)
 
--- 9: at least 1 byte of a small piece, at least P bytes of a large one
-pub record Remains (P : ℕ) (c : Class) (z k : ℕ) : Type 0 where
-  pub small : Small c → 1 + k ≤ z
-  pub large : c ≡ Large → P + k ≤ z
-
+-- 9
 pub record HasLeft (sp : Space) (w : List ℕ) (a z k : ℕ) : Type 0 where
   pub live : IsLive (entriesOf sp w) (nameOf a z)
   pub left : Remains (sp .page) (live .named .class) z k

@@ -1,13 +1,12 @@
 -- Chains that change in one place.
 --
--- In this order: the same entry in another place; what may follow what, and where a chain ends; the entries before a place, the nearest
+-- In this order: the same entry in another place; what may follow what; the entries before a place, the nearest
 -- first (Upto), and how they join the entries from there on; live pieces; `file-of-chain`.
 --
 -- Assumes nothing.
 use Prim.Native.Nat.{ℕ, _+_, _<_}
 use mathlib.Core.List.{List, [], _∷_, _++_, append-nil, reverse, reverseAux, reverseAux-eq, cons≢nil}
-use mathlib.Core.Path.{_≡_, refl, sym, ap, _∙_}
-use native.Mathlib.Omega.{arith}
+use mathlib.Core.Path.{_≡_, sym, ap, _∙_}
 use Rattle.pages.specs.Pages.{Border}
 use Rattle.pieces.proofs.PieceLaws.{live-free, not-free}
 use Rattle.pieces.specs.Pieces.{piece, classOf, IsFree}
@@ -18,7 +17,6 @@ use Rattle.pieces.specs.declared.Status.the-variants.{Live, Free}
 use Rattle.pieces.specs.declared.Status.{Status}
 use Rattle.table.proofs.Canon.{canonical}
 use Rattle.table.proofs.Chain.{Entry, ChainFrom, stop, step, Chain}
-use Rattle.table.proofs.ChainLaws.{chain-le}
 use Rattle.table.proofs.LivesLaws.{lives-free-append, lives-append}
 use Rattle.table.specs.Fill.{lives, free}
 use Rattle.literal.specs.Statements.{FileOf}
@@ -63,14 +61,6 @@ pub chain-border : {P E : ℕ} {s : Status} {a : ℕ} {es : List Piece} (u : Sta
     → ChainFrom P E s a es → ChainFrom P E u a es
 chain-border u b h (stop q b') = stop q b'
 chain-border u b h (step e r) = step (entry-behind u e (λ nb. absurd (nb b)) (λ nb x y. nb b) (λ x y. h x)) r
-
-pub chain-end : {P E : ℕ} {s : Status} {a : ℕ} {es : List Piece} → ChainFrom P E s a es → a ≡ E → es ≡ []
-chain-end (stop q b) e = refl
-chain-end (step y r) e = absurd (omega (arith, chain-le r, y .some))
-
-pub chain-last : {P E : ℕ} {s : Status} {a : ℕ} {es : List Piece} → ChainFrom P E s a es → es ≡ [] → a ≡ E
-chain-last (stop q b) e = q
-chain-last (step y r) e = absurd (cons≢nil e)
 
 -- ---- the entries before a place
 

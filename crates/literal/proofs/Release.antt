@@ -11,7 +11,7 @@ use mathlib.Core.Path.{_≡_, refl, sym, ap, _∙_}
 use native.Mathlib.Omega.{arith}
 use lib.Dec.{eqb}
 use borrow.Author.Tests.{eqb-true, eq-eqb}
-use Rattle.literal.proofs.ChangedChains.{chain-end, chain-last, nearest, Upto, start, add, upto-chain, lives-only-free, lives-around, file-of-chain}
+use Rattle.literal.proofs.ChangedChains.{nearest, Upto, start, add, upto-chain, lives-only-free, lives-around, file-of-chain}
 use Rattle.literal.proofs.MergeLaws.{chain-free, Open, merged-open, Settled, emptied-merged}
 use Rattle.literal.specs.Steps.{Freed, becomesFree, merged, emptied, wholePages, cutFile, keptFile, cut, freedAt}
 use Rattle.literal.specs.Steps.{isNamed, afterReleasingFrom, afterReleasing}
@@ -29,7 +29,7 @@ use Rattle.rules.proofs.SpliceLaws.{remove-at}
 use Rattle.rules.specs.Editing.{Name, names, remove}
 use Rattle.table.proofs.Canon.{canonical}
 use Rattle.table.proofs.Chain.{Entry, ChainFrom, stop, step, Chain}
-use Rattle.table.proofs.ChainLaws.{free-chain, chain-border-end, entry-free}
+use Rattle.table.proofs.ChainLaws.{entry-free, free-chain, chain-border-end, chain-end, chain-last}
 use Rattle.table.specs.Fill.{lives, free, Good}
 use Rattle.literal.specs.Statements.{FileOf, ReleasingIn}
 

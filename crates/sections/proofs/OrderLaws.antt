@@ -12,7 +12,6 @@ use mathlib.Core.Path.{_≡_, refl, sym, ap, _∙_}
 use Prim.Native.Nat.{ℕ, _<_}
 use native.Mathlib.Omega.{arith}
 use Rattle.pages.proofs.Numbers.{not-both}
-use Rattle.pages.proofs.PageLaws.{page-pos}
 use Rattle.pieces.proofs.PieceLaws.{same-class, class-same}
 use Rattle.pieces.specs.Pieces.{freeOf}
 use Rattle.pieces.specs.Words.{entries}
@@ -23,7 +22,7 @@ use Rattle.pieces.specs.declared.Status.{Status}
 use Rattle.sections.specs.Order.{InOrder, in-order-none, in-order-more, SectionsOf, SectionsRight}
 use Rattle.sections.specs.Sections.{sections}
 use Rattle.table.proofs.Chain.{ChainFrom, stop, step}
-use Rattle.table.proofs.Literal.{mem-from}
+use Rattle.table.proofs.ChainLaws.{mem-from}
 use Rattle.table.proofs.Theorems.{sound-chain}
 
 -- ---- the test
@@ -76,12 +75,12 @@ sections-kept k (x ∷ es) (in-order-more l o) = one-more k x es l (sections-kep
 
 -- ---- the entries of a table
 
-chain-order : {P E a : ℕ} {t : Status} {es : List Piece} → 0 < P → ChainFrom P E t a es → InOrder es
-chain-order h (stop e b) = in-order-none
-chain-order {P} h (step {a = a} {es = es} v r) = in-order-more below (chain-order h r)
+chain-order : {P E a : ℕ} {t : Status} {es : List Piece} → ChainFrom P E t a es → InOrder es
+chain-order (stop e b) = in-order-none
+chain-order (step {a = a} {es = es} v r) = in-order-more below (chain-order r)
   where
     below : (y : Piece) → List·Memᴰ y es → a < y .address
-    below y i = omega (arith, v .some, mem-from P h r i)
+    below y i = omega (arith, v .some, mem-from r i)
 
 pub sections-right : SectionsRight
-sections-right P M E n w k s = sections-kept k (entries w 0 n) (chain-order (page-pos (s .ranges .page)) (sound-chain s))
+sections-right P M E n w k s = sections-kept k (entries w 0 n) (chain-order (sound-chain s))

@@ -4,11 +4,13 @@
 --   Alone, entry-free   a free entry and its neighbour do not have to merge; what a free entry has to show
 --   free-chain          a free entry before a chain, if there is a byte for it
 --   chain-le, chain-border-end     a chain starts at or below its end, and ends at a border
+--   chain-end, chain-last          there is no entry behind the end, and where there is none the file ends
+--   mem-from, one-at    an entry of a chain starts at its start or behind it; no two start at one address
 --
 -- Assumes nothing.
 use Prim.Native.Nat.{ℕ, _+_, _-_, _≤_, _<_}
-use mathlib.Core.List.{List, [], _++_}
-use mathlib.Core.Path.{_≡_, sym, ap}
+use mathlib.Core.List.{List, [], _++_, List·Memᴰ, List·Memᴰ·head, List·Memᴰ·tail, cons≢nil}
+use mathlib.Core.Path.{_≡_, refl, sym, ap, _∙_}
 use native.Mathlib.Omega.{arith}
 use Rattle.pages.proofs.Numbers.{split}
 use Rattle.pages.specs.Pages.{Border}
@@ -77,3 +79,22 @@ chain-le (step e r) = omega (arith, chain-le r)
 pub chain-border-end : {P E : ℕ} {s : Status} {a : ℕ} {es : List Piece} → ChainFrom P E s a es → Border P E
 chain-border-end (stop q b) = rw q at b
 chain-border-end (step e r) = chain-border-end r
+
+pub chain-end : {P E : ℕ} {s : Status} {a : ℕ} {es : List Piece} → ChainFrom P E s a es → a ≡ E → es ≡ []
+chain-end (stop q b) e = refl
+chain-end (step y r) e = absurd (omega (arith, chain-le r, y .some))
+
+pub chain-last : {P E : ℕ} {s : Status} {a : ℕ} {es : List Piece} → ChainFrom P E s a es → es ≡ [] → a ≡ E
+chain-last (stop q b) e = q
+chain-last (step y r) e = absurd (cons≢nil e)
+
+pub mem-from : {P E : ℕ} {s : Status} {a : ℕ} {es : List Piece} {x : Piece} → ChainFrom P E s a es → List·Memᴰ x es → a ≤ x .address
+mem-from (step {a = a} y r) (List·Memᴰ·head e) = omega (arith, ap (λ (p : Piece). p .address) e)
+mem-from (step {a = a} y r) (List·Memᴰ·tail m) = omega (arith, mem-from r m)
+
+pub one-at : {P E : ℕ} {s : Status} {a : ℕ} {es : List Piece} {x y : Piece} → ChainFrom P E s a es → List·Memᴰ x es → List·Memᴰ y es
+    → x .address ≡ y .address → x ≡ y
+one-at (step v r) (List·Memᴰ·head e) (List·Memᴰ·head f) q = e ∙ sym f
+one-at (step v r) (List·Memᴰ·head e) (List·Memᴰ·tail j) q = absurd (omega (arith, v .some, mem-from r j, ap (λ (p : Piece). p .address) e))
+one-at (step v r) (List·Memᴰ·tail i) (List·Memᴰ·head f) q = absurd (omega (arith, v .some, mem-from r i, ap (λ (p : Piece). p .address) f))
+one-at (step v r) (List·Memᴰ·tail i) (List·Memᴰ·tail j) q = one-at r i j q

@@ -22,15 +22,11 @@ use Rattle.pieces.specs.declared.Piece.{Piece}
 use Rattle.pieces.specs.declared.Status.the-variants.{Live, Free}
 use Rattle.pieces.specs.declared.Status.{Status}
 use Rattle.table.proofs.Chain.{Entry, ChainFrom, stop, step, Chain}
-use Rattle.table.proofs.ChainLaws.{chain-le}
+use Rattle.table.proofs.ChainLaws.{chain-le, mem-from}
 use Rattle.table.specs.Fill.{Within}
 use Rattle.table.specs.Sound.{Tiles, tiled, tile, Touches, LiveIn, Neighbours, here, later, Last, last-one, last-later, SoundEntries}
 
 module _ (P : ℕ) (pos : 0 < P) where
-  pub mem-from : {E : ℕ} {s : Status} {a : ℕ} {es : List Piece} {x : Piece} → ChainFrom P E s a es → List·Memᴰ x es → a ≤ x .address
-  mem-from (step {a = a} y r) (List·Memᴰ·head e) = omega (arith, ap (λ (p : Piece). p .address) e)
-  mem-from (step {a = a} y r) (List·Memᴰ·tail m) = omega (arith, mem-from r m)
-
   -- all of a page that holds the border between two entries is of one class
   inside : {E : ℕ} {s : Status} {a : ℕ} {es : List Piece} {x : Piece} (q : ℕ) → Border P q → q < a → ChainFrom P E s a es → List·Memᴰ x es
       → x .address < q + P → classOf s ≡ classOf (x .status)

@@ -2,7 +2,7 @@
 --
 --   covered       a byte from the first entry's start to the end lies in one of the entries, and its place among them
 --   in-order      an entry further on starts where an earlier one ends, or behind it
---   below-end     no entry reaches beyond the end
+--   below-end     no entry reaches beyond the end; `mem-below` of an entry by itself
 --   alone         no other entry holds a byte of an entry
 --
 -- The same of the first n entries of words w, by `entryAt`:
@@ -14,7 +14,7 @@
 --
 -- Assumes nothing.
 use Prim.Native.Nat.{ℕ, zero, suc, _+_, _^_, _≤_, _<_}
-use mathlib.Core.List.{List, _∷_}
+use mathlib.Core.List.{List, _∷_, List·Memᴰ, List·Memᴰ·head, List·Memᴰ·tail}
 use mathlib.Core.Path.{_≡_, ap, _∙_}
 use native.Mathlib.Nat.{zero-add}
 use native.Mathlib.Omega.{arith}
@@ -42,6 +42,10 @@ entries-at w i (suc k) (suc j) h = let e : i + suc j ≡ suc i + j = omega arith
 pub tiles-from : {E a : ℕ} {es : List Piece} → Tiles E a es → a ≤ E
 tiles-from (tiled e) = omega arith
 tiles-from (tile r) = omega (arith, tiles-from r)
+
+pub mem-below : {E a : ℕ} {es : List Piece} {x : Piece} → Tiles E a es → List·Memᴰ x es → behind x ≤ E
+mem-below (tile {a = a} {z = z} t) (List·Memᴰ·head e) = omega (arith, tiles-from t, ap behind e)
+mem-below (tile t) (List·Memᴰ·tail h) = mem-below t h
 
 pub record Covered (es : List Piece) (v : ℕ) : Type 0 where
   pub place : ℕ
