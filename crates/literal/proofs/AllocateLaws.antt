@@ -1,7 +1,7 @@
 -- Allocating, step by step: what each rule makes of a table is a table.
 --
 -- In this order: one entry is replaced, or entries come behind the last; bytes that the large rule gives (Grant), and the remainder behind
--- them; the large rule in a free large entry and at the end; a small piece in a free small entry.
+-- them; the large rule in a free large entry and at the end; bytes from the start of a free entry on, and a small piece there.
 --
 -- Assumes nothing.
 use Prim.Native.Nat.{ℕ, suc, _+_, _-_, _≤_, _<_}
@@ -128,7 +128,7 @@ module _ (P : ℕ) (pos : 0 < P) where
       go (large-next b l e) q = b
 
   -- the remainder behind them is kind 6
-  remainder : {E b q : ℕ} {new : List Piece} {u : Status} (e : ℕ) (ys : List Piece) → Grant b q new u → b + q ≤ e
+  pub remainder : {E b q : ℕ} {new : List Piece} {u : Status} (e : ℕ) (ys : List Piece) → Grant b q new u → b + q ≤ e
       → (ys ≡ [] → e < b + q + P) → ChainFrom P E (Free Large) e ys → ChainFrom P E u (b + q) (free Large (b + q) e ++ ys)
   remainder {E} {b} {q} {new} {u} e ys g l h r =
       free-chain Large (b + q) e ys l entry (λ m. r) (λ i. chain-border u (large-ends r) (g .not-large) r)
@@ -189,12 +189,12 @@ module _ (P : ℕ) (pos : 0 < P) where
           (remainder (E + up P q) [] (g b) (omega (arith, up-ge P pos q)) (λ x. omega (arith, up-lt P pos q))
           (stop refl (border-sum b (up-border P pos q))))
 
-  -- ---- a small piece in a free small entry
+  -- ---- bytes from the start of a free entry on become live
 
-  -- the rest of the entry behind the piece
-  small-rest : {E a s z : ℕ} {k : Class} (ys : List Piece) → Small k → 0 < s → s ≤ z → Within P a z → ChainFrom P E (Free k) (a + z) ys
-      → ChainFrom P E (Live k) (a + s) (free k (a + s) (a + z) ++ ys)
-  small-rest {E} {a} {s} {z} {k} ys t p l w r =
+  -- the rest of the entry behind them
+  pub rest-behind : {E a s z : ℕ} {k : Class} {u : Status} (ys : List Piece) → s ≤ z → Entry P u a z (Free k) ys
+      → ChainFrom P E (Free k) (a + z) ys → ChainFrom P E (Live k) (a + s) (free k (a + s) (a + z) ++ ys)
+  rest-behind {E} {a} {s} {z} {k} ys l e r =
       free-chain k (a + s) (a + z) ys (omega arith) entry (λ m. r) (λ i. chain-live r)
     where
       page : down P a ≤ down P (a + s)
@@ -202,8 +202,9 @@ module _ (P : ℕ) (pos : 0 < P) where
 
       entry : a + s < a + z → Entry P (Live k) (a + s) (a + z - (a + s)) (Free k) ys
       entry m =
-          entry-free (omega arith) (λ q. record { under = omega (arith, w .under); in-page = omega (arith, w .in-page, page) })
-          (λ nb. refl) alone-live (λ q e. absurd (small-large t e))
+          entry-free (omega arith)
+          (λ q. record { under = omega (arith, e .small q .under); in-page = omega (arith, e .small q .in-page, page) })
+          (λ nb. refl) alone-live (λ q h. omega (arith, e .cut q (ap Free h)))
 
   pub into-small : {E a s z : ℕ} {k : Class} → Small k → 0 < s → s ≤ z
       → Replaces P E (intoSmall k s (piece a z (Free k))) (piece a z (Free k))
@@ -211,7 +212,7 @@ module _ (P : ℕ) (pos : 0 < P) where
   into-small {E} {a} {s} {z} {k} t p l =
       record {
         some = λ ys x. cons≢nil x;
-        chain = λ u ys e r. step (entry-live (shorter (e .small t)) (e .family)) (small-rest ys t p l (e .small t) r);
+        chain = λ u ys e r. step (entry-live (shorter (e .small t)) (e .family)) (rest-behind ys l e r);
       }
     where
       shorter : Within P a z → Whole P k a s

@@ -89,6 +89,20 @@ lives-only-free c a b = ap lives (sym (append-nil (free c a b))) ∙ lives-free-
 pub lives-around : (ls ys : List Piece) → lives (reverseAux ls ys) ≡ lives (reverse ls) ++ lives ys
 lives-around ls ys = ap lives (reverseAux-eq ls ys) ∙ lives-append (reverse ls) ys
 
+-- a free entry changes none of them
+pub lives-skip : (ls : List Piece) (x : Piece) (ys : List Piece) {k : Class} → x .status ≡ Free k
+    → lives (reverseAux ls (x ∷ ys)) ≡ lives (reverseAux ls ys)
+unfolding lives
+lives-skip ls x ys q = lives-around ls (x ∷ ys) ∙ (rw q (sym (lives-around ls ys)))
+
+pub lives-free-between : (ls : List Piece) (c : Class) (a b : ℕ) (ys : List Piece)
+    → lives (reverseAux ls (free c a b ++ ys)) ≡ lives (reverseAux ls ys)
+unfolding lives
+lives-free-between ls c a b ys = lives-around ls (free c a b ++ ys) ∙ (rw lives-free-append (sym (lives-around ls ys)))
+
+pub lives-free-last : (ls : List Piece) (c : Class) (a b : ℕ) → lives (reverseAux ls (free c a b)) ≡ lives (reverseAux ls [])
+lives-free-last ls c a b = ap (λ (l : List Piece). lives (reverseAux ls l)) (sym (append-nil (free c a b))) ∙ lives-free-between ls c a b []
+
 -- ---- a table is determined by its live pieces
 
 pub file-of-chain : {P E : ℕ} {es : List Piece} (ps : List Piece) → 0 < P → Chain P E es → lives es ≡ ps

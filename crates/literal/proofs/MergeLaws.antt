@@ -11,7 +11,7 @@ use mathlib.Core.Path.{_≡_, refl, sym, ap, _∙_}
 use native.Mathlib.Omega.{arith}
 use lib.Dec.{eqb}
 use borrow.Author.Tests.{eqb-true, eqb-false, not-true}
-use Rattle.literal.proofs.ChangedChains.{entry-behind, nearest, Upto, add, lives-around}
+use Rattle.literal.proofs.ChangedChains.{entry-behind, nearest, Upto, add, lives-skip}
 use Rattle.literal.specs.Steps.{Freed, merges, mergedBefore, mergedBehind, merged, asLarge, emptied}
 use Rattle.pages.proofs.Numbers.{split, and-left, and-right, not-both}
 use Rattle.pages.proofs.PageLaws.{true-border, false-border, down-le, down-border, down-in, border-next}
@@ -121,14 +121,9 @@ pub record Merged (P E : ℕ) (ps : List Piece) (f : Freed) : Type 0 where
   pub before : Alone P (nearest (f .before)) (f .address) (f .class)
   pub behind : Alone P (nearest (f .rest)) (f .address + f .size) (f .class)
 
-lives-skip : (ls : List Piece) (x : Piece) (ys : List Piece) {k : Class} → x .status ≡ Free k
-    → lives (reverseAux ls (x ∷ ys)) ≡ lives (reverseAux ls ys)
-unfolding lives
-lives-skip ls x ys q = lives-around ls (x ∷ ys) ∙ (rw q (sym (lives-around ls ys)))
-
 module _ (P : ℕ) (pos : 0 < P) where
   -- bytes that stay within the page of a, and end at no border
-  same-page : (a z : ℕ) → a + z ≤ down P a + P → ¬ Border P (a + z) → down P (a + z) ≡ down P a
+  pub same-page : (a z : ℕ) → a + z ≤ down P a + P → ¬ Border P (a + z) → down P (a + z) ≡ down P a
   same-page a z h nb =
       split (down P a + P) (a + z)
       (λ l. let q : down P a + P ≡ a + z = omega arith in absurd (nb (rw q at (border-next P pos (down-border P pos a)))))

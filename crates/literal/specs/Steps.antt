@@ -31,10 +31,11 @@
 --   cutFile, keptFile, cut     the file with whole pages cut from its end; with none cut; the one or the other
 --   freedAt P E ls x ys        the file after the piece x, between ls and ys, became free
 --   isNamed n x                x is live and has this name
---   afterReleasingFrom P E n ls es   the file after the piece of this name, one of es, was released; the entries ls stand before es
---   afterReleasing P E n es          the same, of a whole table. A name that no live piece has changes nothing: the call refuses it
+--   atNamed E f n ls es        the file that f makes of the piece of this name, one of es, between the entries before it and those behind it;
+--                              the entries ls stand before es. A name that no live piece has changes nothing: the call refuses it
+--   afterReleasing P E n es    the file after the piece of this name was released
 --
--- Not here: extending and shortening. Assumes nothing. What is proved of these is in Statements.antt.
+-- Not here: extending and shortening, which are in Resizing.antt. Assumes nothing. What is proved of these is in Statements.antt.
 use mathlib.Core.Bool.{Bool, false, cond, not, _&&_, _||_}
 use mathlib.Core.List.{List, [], _∷_, _++_, reverseAux}
 use Prim.Native.Nat.{ℕ, zero, suc, _+_, _-_, _*_, _/_}
@@ -179,9 +180,9 @@ freedAt P E ls x ys = cut P E (emptied P (merged P (becomesFree ls x ys)))
 abbrev pub isNamed : Name → Piece → Bool
 isNamed n x = not (freeb (x .status)) && names n x
 
-unfoldable pub afterReleasingFrom : ℕ → ℕ → Name → List Piece → List Piece → File
-afterReleasingFrom P E n ls [] = record { entries = putBack ls []; end = E }
-afterReleasingFrom P E n ls (x ∷ ys) = cond (isNamed n x) (freedAt P E ls x ys) (afterReleasingFrom P E n (x ∷ ls) ys)
+unfoldable pub atNamed : ℕ → (List Piece → Piece → List Piece → File) → Name → List Piece → List Piece → File
+atNamed E f n ls [] = record { entries = putBack ls []; end = E }
+atNamed E f n ls (x ∷ ys) = cond (isNamed n x) (f ls x ys) (atNamed E f n (x ∷ ls) ys)
 
 unfoldable pub afterReleasing : ℕ → ℕ → Name → List Piece → File
-afterReleasing P E n es = afterReleasingFrom P E n [] es
+afterReleasing P E n es = atNamed E (freedAt P E) n [] es

@@ -30,6 +30,17 @@ use Rattle.table.proofs.ChainLaws.{chain-end, one-at}
 use Rattle.table.proofs.Literal.{rules-of}
 use Rattle.table.proofs.TilingLaws.{mem-below}
 
+-- ---- the entry behind a piece
+
+-- tl is a part of the table es, from b on
+pub the-next : {P E b : ℕ} {t : Status} {es tl : List Piece} {y : Piece} → 0 < P → Chain P E es → ChainFrom P E t b tl
+    → ((x : Piece) → List·Memᴰ x tl → List·Memᴰ x es) → List·Memᴰ y es → y .address ≡ b → (rest : List Piece) × (tl ≡ y ∷ rest)
+the-next {P} {y = y} pos whole (stop e b) among i q =
+    let h = rules-of P pos whole in absurd (omega (arith, h .filled y i, mem-below (h .tiling) i))
+the-next {b = b} pos whole (step {t = t} {n = n} {es = tl} v r) among i q =
+    let same = one-at whole (among (piece b n t) (List·Memᴰ·head refl)) i (sym q) in
+    (tl, ap (λ (x : Piece). x ∷ tl) same)
+
 -- ---- tests of a status
 
 free-test : (t : Status) → freeb t ≡ true → IsFree t
@@ -77,28 +88,20 @@ module _ {P E : ℕ} {es : List Piece} (pos : 0 < P) (whole : Chain P E es) (a z
   room-test SmallRaw tl r among h = small-test tl raw r among h
   room-test Large tl r among h = large-test tl r among h
 
-  pub the-next : {t : Status} {tl : List Piece} {y : Piece} → ChainFrom P E t (a + z) tl → ((x : Piece) → List·Memᴰ x tl → List·Memᴰ x es)
-      → List·Memᴰ y es → y .address ≡ a + z → (rest : List Piece) × (tl ≡ y ∷ rest)
-  the-next {y = y} (stop e b) among i q =
-      let h = rules-of P pos whole in absurd (omega (arith, h .filled y i, mem-below (h .tiling) i))
-  the-next {y = y} (step {t = t} {n = n} {es = tl} v r) among i q =
-      let same = one-at whole (among (piece (a + z) n t) (List·Memᴰ·head refl)) i (sym q) in
-      (tl, ap (λ (x : Piece). x ∷ tl) same)
-
   test-small : {c : Class} {tl : List Piece} {y : Piece} → Small c → ChainFrom P E (Live c) (a + z) tl
       → ((x : Piece) → List·Memᴰ x tl → List·Memᴰ x es) → List·Memᴰ y es → y .address ≡ a + z → IsFree (y .status)
       → (Border P (a + z) → ⊥) → m ≤ y .size → z + m < P → roomBehindb P c (a + z) z m tl ≡ true
   unfolding roomBehindb smallRoomb
   test-small {y = y} metadata r among i q f nb l u =
-      rw (the-next r among i q .1, false-border P (a + z) nb, test-free f, le-leb m (y .size) l, lt-ltb (z + m) P u)
+      rw (the-next pos whole r among i q .1, false-border P (a + z) nb, test-free f, le-leb m (y .size) l, lt-ltb (z + m) P u)
   test-small {y = y} raw r among i q f nb l u =
-      rw (the-next r among i q .1, false-border P (a + z) nb, test-free f, le-leb m (y .size) l, lt-ltb (z + m) P u)
+      rw (the-next pos whole r among i q .1, false-border P (a + z) nb, test-free f, le-leb m (y .size) l, lt-ltb (z + m) P u)
 
   pub test-room : {c : Class} {tl : List Piece} → ChainFrom P E (Live c) (a + z) tl → ((x : Piece) → List·Memᴰ x tl → List·Memᴰ x es)
       → RoomBehind P E es a z m c → roomBehindb P c (a + z) z m tl ≡ true
   unfolding roomBehindb largeRoomb
   test-room r among (small-room c i q f nb l u) = test-small c r among i q f nb l u
-  test-room r among (large-room {y = y} i q f l) = rw (the-next r among i q .1, f, le-leb m (y .size) l)
+  test-room r among (large-room {y = y} i q f l) = rw (the-next pos whole r among i q .1, f, le-leb m (y .size) l)
   test-room r among (room-at-end e) = rw (chain-end r e)
 
 -- ---- what remains of a piece
