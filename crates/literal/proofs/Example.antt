@@ -1,4 +1,5 @@
--- The rules compute: six steps of document 01's run with P = 512, each from the table before it, and an extend at the file's end.
+-- The rules compute: six steps of document 01's run with P = 512, each from the table before it, and two more: a cut part that
+-- merges, and an extend at the file's end.
 --
 --   step-five         a small request without a free small entry gets a page at the end, not the misaligned rest of the large piece
 --   step-six          a released large piece merges with kind 6 behind it
@@ -6,6 +7,7 @@
 --   step-ten          the cut part of a shortened large piece is kind 6
 --   step-eleven       an emptied small page becomes kind 6, merges, and its whole page is cut; the part page stays
 --   step-twelve       a released large piece at the end, and the two whole pages that it leaves, are cut
+--   cut-merges        the cut part of a shortened large piece and kind 6 behind it are one entry
 --   at-the-end        an extended large piece at the end grows the file by two pages for 700 bytes; the rest of them is kind 6
 --
 -- Assumes nothing.
@@ -74,6 +76,11 @@ step-eleven = refl
 step-twelve : afterReleasing 512 2048 (name 1024 724) (four ++ (piece 1024 724 (Live Large) ∷ piece 1748 300 (Free Large) ∷ [])) ≡ file four 1024
 unfolding afterReleasing atNamed freedAt cut emptied merged mergedBefore mergedBehind merges free
 step-twelve = refl
+
+cut-merges : afterShortening 512 2048 (name 1024 724) 100 (four ++ (piece 1024 724 (Live Large) ∷ piece 1748 300 (Free Large) ∷ []))
+    ≡ file (four ++ (piece 1024 624 (Live Large) ∷ piece 1648 400 (Free Large) ∷ [])) 2048
+unfolding afterShortening atNamed afterShorteningAt freedAt cut emptied merged mergedBefore mergedBehind merges free
+cut-merges = refl
 
 at-the-end : afterExtending 512 1536 (name 1024 512) 700 (four ++ (piece 1024 512 (Live Large) ∷ []))
     ≡ file (four ++ (piece 1024 1212 (Live Large) ∷ piece 2236 324 (Free Large) ∷ [])) 2560

@@ -18,7 +18,7 @@ use Rattle.literal.specs.Statements.{FileOf, ExtendingIn}
 use Rattle.pages.proofs.PageLaws.{up-border, up-ge, up-lt, border-sum}
 use Rattle.pages.specs.Pages.{up, Border}
 use Rattle.pieces.proofs.PieceLaws.{large-small, small-large}
-use Rattle.pieces.specs.Pieces.{piece, Small, IsFree, is-free}
+use Rattle.pieces.specs.Pieces.{piece, classOf, Small, IsFree, is-free}
 use Rattle.pieces.specs.declared.Class.the-variants.{Large}
 use Rattle.pieces.specs.declared.Class.{Class}
 use Rattle.pieces.specs.declared.Piece.{Piece}
@@ -54,12 +54,14 @@ module _ (P : ℕ) (pos : 0 < P) where
         whole = λ q. omega (arith, e .whole (ap Live q));
       }
 
-  into-chain : {E a z m n : ℕ} {k : Class} {ls es ys : List Piece} → Upto P a ls → Entry P (nearest ls) a z (Live k) es
-      → Entry P (Live k) (a + z) n (Free k) ys → ChainFrom P E (Free k) (a + z + n) ys → Takes k a z m n
-      → Chain P E (reverseAux ls (piece a (z + m) (Live k) ∷ (free k (a + (z + m)) (a + z + n) ++ ys)))
-  into-chain {a = a} {z = z} {m = m} {ys = ys} u e v r h =
+  into-chain : {E a z m n : ℕ} {k : Class} {t : Status} {ls es ys : List Piece} → Upto P a ls → Entry P (nearest ls) a z (Live k) es
+      → Entry P (Live k) (a + z) n t ys → ChainFrom P E t (a + z + n) ys → t ≡ Free k → Takes k a z m n
+      → Chain P E (reverseAux ls (piece a (z + m) (Live k) ∷ (free (classOf t) (a + (z + m)) (a + z + n) ++ ys)))
+  into-chain {a = a} {z = z} {m = m} {ys = ys} u e v r q h =
       let i : a + z + m ≡ a + (z + m) = omega arith in
-      upto-chain u (step (entry-live (longer-whole e v h) (e .family)) (rw i at (rest-behind P pos ys (h .bytes) v r))) (λ x y. cons≢nil x)
+      let v' = rw q at v in
+      let rest = rest-behind P pos ys (h .bytes) v' (rw q at r) in
+      rw q (upto-chain u (step (entry-live (longer-whole e v' h) (e .family)) (rw i at rest)) (λ x y. cons≢nil x))
 
   into-done : {E a z m : ℕ} {k : Class} {ls es ys : List Piece} {y : Piece} → Upto P a ls → Entry P (nearest ls) a z (Live k) es
       → ChainFrom P E (Live k) (a + z) (y ∷ ys) → y .status ≡ Free k → Takes k a z m (y .size)
@@ -67,8 +69,8 @@ module _ (P : ℕ) (pos : 0 < P) where
   unfolding afterExtendingAt extendedInto
   into-done {E} {a} {z} {m} {k} {ls} {ys = ys} u e (step {t = t} {n = n} v r) q h =
       let xs : List Piece = piece a (z + m) (Live k) ∷ ls in
-      rw (lives-skip xs (piece (a + z) n t) ys q, q)
-      (file-of-chain _ pos (into-chain u e (rw q at v) (rw q at r) h) (lives-free-between xs k (a + (z + m)) (a + z + n) ys))
+      file-of-chain _ pos (into-chain u e v r q h)
+      (lives-free-between xs (classOf t) (a + (z + m)) (a + z + n) ys ∙ sym (lives-skip xs (piece (a + z) n t) ys q))
 
   -- ---- it grows the file
 

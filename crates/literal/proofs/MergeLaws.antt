@@ -1,4 +1,4 @@
--- A released piece, step by step: it becomes free, merges, and an emptied page is kind 6.
+-- A piece that becomes free in a release, or the cut part of one that is shortened, step by step: it merges, and an emptied page is kind 6.
 --
 -- In this order: the test of a merge; beside what a free entry may stand; what is known of the freed entry (Open); it merges with the
 -- neighbour before it and behind it (Half, Merged); its page is emptied (Settled).

@@ -9,10 +9,12 @@ use mathlib.Core.List.{List, _∷_, reverseAux, List·Memᴰ}
 use mathlib.Core.Path.{_≡_, refl, sym, ap, _∙_}
 use native.Mathlib.Omega.{arith}
 use Rattle.literal.proofs.ChangedChains.{nearest, Upto, add}
+use Rattle.literal.proofs.MergeLaws.{Open}
 use Rattle.literal.proofs.NamedPiece.{reached, resized}
 use Rattle.literal.proofs.Release.{freed-at}
-use Rattle.literal.specs.Resizing.{afterShorteningAt, afterShortening}
+use Rattle.literal.specs.Resizing.{shorter, cutPart, afterShorteningAt, afterShortening}
 use Rattle.literal.specs.Statements.{FileOf, ShorteningIn}
+use Rattle.literal.specs.Steps.{becomesFree}
 use Rattle.pages.proofs.PageLaws.{down-le, down-border, down-most}
 use Rattle.pages.specs.Pages.{down}
 use Rattle.pieces.proofs.PieceLaws.{View, small, large, view}
@@ -46,12 +48,13 @@ module _ (P : ℕ) (pos : 0 < P) where
 
   -- ---- the cut part
 
-  shortened-at : {E a z k : ℕ} {c : Class} {ls ys : List Piece} → Upto P a ls → Entry P (nearest ls) a z (Live c) ys
+  -- what remains is the nearest entry before it
+  cut-open : {E a z k : ℕ} {c : Class} {ls ys : List Piece} → Upto P a ls → Entry P (nearest ls) a z (Live c) ys
       → ChainFrom P E (Live c) (a + z) ys → 1 ≤ k → Remains P c z k
-      → FileOf P (afterShorteningAt P E k ls (piece a z (Live c)) ys) (lives (reverseAux ls (piece a (z - k) (Live c) ∷ ys)))
-  unfolding afterShorteningAt
-  shortened-at {E} {a} {z} {k} {c} {ls} {ys} u e r p h =
-      freed-at P pos (piece a (z - k) (Live c) ∷ ls) (piece (a + (z - k)) k (Live c)) ys (record {
+      → Open P E (lives (reverseAux ls (piece a (z - k) (Live c) ∷ ys)))
+      (becomesFree (shorter k (piece a z (Live c)) ∷ ls) (cutPart k (piece a z (Live c))) ys)
+  cut-open {a = a} {z = z} {k = k} {c = c} {ys = ys} u e r p h =
+      record {
         upto = add {es = ys} u (entry-live (shorter-whole e h) (e .family));
         former = Live c;
         chain = rw ends r;
@@ -60,13 +63,21 @@ module _ (P : ℕ) (pos : 0 < P) where
         left = λ nb. refl;
         right = λ nb. refl;
         others = refl;
-      })
+      }
     where
       ends : a + (z - k) + k ≡ a + z
       ends = omega (arith, some-remains (view c) h)
 
       page : down P a ≤ down P (a + (z - k))
       page = down-most P pos (down-border P pos a) (omega (arith, down-le P pos a))
+
+  shortened-at : {E a z k : ℕ} {c : Class} {ls ys : List Piece} → Upto P a ls → Entry P (nearest ls) a z (Live c) ys
+      → ChainFrom P E (Live c) (a + z) ys → 1 ≤ k → Remains P c z k
+      → FileOf P (afterShorteningAt P E k ls (piece a z (Live c)) ys) (lives (reverseAux ls (piece a (z - k) (Live c) ∷ ys)))
+  unfolding afterShorteningAt
+  shortened-at {a = a} {z = z} {k = k} {c = c} {ls = ls} {ys = ys} u e r p h =
+      let x : Piece = piece a z (Live c) in
+      freed-at P pos (shorter k x ∷ ls) (cutPart k x) ys (cut-open u e r p h)
 
   pub shortened-chain : {E k : ℕ} {c : Class} {x : Piece} {es : List Piece} (n : Name) → Chain P E es → List·Memᴰ x es → x .status ≡ Live c
       → names n x ≡ true → 1 ≤ k → Remains P c (x .size) k → ShorteningIn P E n k es

@@ -6,7 +6,7 @@
 --   Allocating          of a sound table: allocating at the place that the rule chooses is to insert the piece, then to fill
 --   Releasing           of a sound table: releasing a live piece is to remove it, then to fill
 --   Extending           of a sound table: extending a live piece with the stated room behind it is to give it its new size, then to fill
---   Shortening          of a sound table: shortening a live piece of which enough remains is the same
+--   Shortening          of a sound table: shortening a live piece, by a byte or more, of which enough remains is the same
 --   AllocatingIn, ReleasingIn, ExtendingIn, ShorteningIn   the same of given entries
 --
 -- Assumes nothing.
