@@ -13,7 +13,7 @@ use Rattle.demands.proofs.Placing.{placing}
 use Rattle.demands.proofs.Refusals.{refusals}
 use Rattle.demands.proofs.Run.{the-run}
 use Rattle.demands.specs.Signed.{Signed}
-use Rattle.literal.proofs.Statements.{allocating, releasing}
+use Rattle.literal.proofs.Statements.{allocating, releasing, extending, shortening}
 use Rattle.message.proofs.Promised.{read-exact, rest-exact, write-exact, accepted, round-trip, unique}
 use Rattle.table.proofs.Theorems.{determined, one-table}
 
@@ -31,6 +31,8 @@ signed =
       the-run = the-run;
       allocating = allocating;
       releasing = releasing;
+      extending = extending;
+      shortening = shortening;
       read-exact = read-exact;
       rest-exact = rest-exact;
       write-exact = write-exact;

@@ -6,7 +6,7 @@
 --
 -- Assumes nothing.
 use Rattle.demands.specs.Demands.{Refusals, Keeps, Edits, NewBytes, Placing, Exactly, Listings, Runs, AnyOrder, TwoOrders, TheRun, OneResult}
-use Rattle.literal.specs.Statements.{Allocating, Releasing}
+use Rattle.literal.specs.Statements.{Allocating, Releasing, Extending, Shortening}
 use Rattle.message.specs.Promises.{ReadExact, RestExact, WriteExact, Accepted, RoundTrip, Unique}
 use Rattle.table.specs.Theorems.{Determined, OneTable}
 
@@ -25,6 +25,8 @@ pub record Signed : Type 0 where
   -- document 01's own sentences give the same table and end
   pub allocating : Allocating
   pub releasing : Releasing
+  pub extending : Extending
+  pub shortening : Shortening
   -- the message is written and read back to equal fields and equal bytes
   pub read-exact : ReadExact
   pub rest-exact : RestExact
