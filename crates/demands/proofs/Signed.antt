@@ -14,7 +14,7 @@ use Rattle.demands.proofs.Refusals.{refusals}
 use Rattle.demands.proofs.Run.{the-run}
 use Rattle.demands.specs.Signed.{Signed}
 use Rattle.literal.proofs.Statements.{allocating, releasing, extending, shortening}
-use Rattle.message.proofs.Promised.{read-exact, rest-exact, write-exact, accepted, round-trip, unique}
+use Rattle.message.proofs.Promised.{read-exact, rest-exact, write-exact, acceptance, round-trip, one-meaning}
 use Rattle.table.proofs.Theorems.{determined, one-table}
 
 pub signed : Signed
@@ -36,9 +36,9 @@ signed =
       read-exact = read-exact;
       rest-exact = rest-exact;
       write-exact = write-exact;
-      acceptance = accepted;
+      acceptance = acceptance;
       round-trip = round-trip;
-      one-meaning = unique;
+      one-meaning = one-meaning;
       any-order = any-order;
       two-orders = two-orders;
       determined = determined;

@@ -7,7 +7,7 @@
 -- Assumes nothing.
 use Rattle.demands.specs.Demands.{Refusals, Keeps, Edits, NewBytes, Placing, Exactly, Listings, Runs, AnyOrder, TwoOrders, TheRun, OneResult}
 use Rattle.literal.specs.Statements.{Allocating, Releasing, Extending, Shortening}
-use Rattle.message.specs.Promises.{ReadExact, RestExact, WriteExact, Accepted, RoundTrip, Unique}
+use Rattle.message.specs.Promises.{ReadExact, RestExact, WriteExact, Acceptance, RoundTrip, OneMeaning}
 use Rattle.table.specs.Theorems.{Determined, OneTable}
 
 pub record Signed : Type 0 where
@@ -31,9 +31,9 @@ pub record Signed : Type 0 where
   pub read-exact : ReadExact
   pub rest-exact : RestExact
   pub write-exact : WriteExact
-  pub acceptance : Accepted
+  pub acceptance : Acceptance
   pub round-trip : RoundTrip
-  pub one-meaning : Unique
+  pub one-meaning : OneMeaning
   -- demand 3: releases in any order end with the one table and end of file that the pieces still live determine
   pub any-order : AnyOrder
   pub two-orders : TwoOrders

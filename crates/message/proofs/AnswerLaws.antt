@@ -1,116 +1,91 @@
--- The laws of what read, rest and write answer and give.
+-- The laws of what read, rest and write say and leave.
 --
--- In this order: the answers, by the tests of the code; what is read and follows, by the answer; what is written. `readAnswer` and
--- `writeAnswer` have one law for each of their outcomes, and no proof above this file opens them.
+-- In this order: what is read, by the tests of the code; where the part behind it starts; what is written; what a write did. `reading` and
+-- `written` have one law for each of their outcomes, and no proof above this file opens them.
 --
 -- Not here: the rules of the fields (RuleLaws). Assumes nothing.
 use Prim.Native.Nat.{ℕ, _≤_, _<_, zero-le}
 use mathlib.Core.Bool.{true, false}
 use mathlib.Core.List.{List, _++_}
-use mathlib.Core.Path.{_≡_, refl, sym, _∙_}
+use mathlib.Core.Path.{_≡_, refl, sym, ap, _∙_}
 use native.Mathlib.Omega.{arith}
 use lib.ListN.{length, drop}
 use borrow.Author.Tests.{eq-eqb, ne-eqb, lt-ltb, le-ltb}
 use Rattle.little.specs.Little.{valueAt}
-use Rattle.message.specs.Message.{readAnswer, reading, writeAnswer, written, Wrote}
+use Rattle.message.specs.Message.{reading, refusedWrite, written, Wrote, writeSaid}
 use Rattle.message_bytes.specs.Parts.{fieldsOf, messageOf}
 use Rattle.message_fields.proofs.FieldLaws.{follows-whole, follows-behind}
-use Rattle.message_fields.specs.Fields.{version, Held, leastLength, lengthOf, refusedRead, followsAt}
+use Rattle.message_fields.specs.Fields.{version, Held, leastLength, lengthOf, ReadOutcome, refusedRead, followsAt}
 use Rattle.message_fields.specs.Layout.{versionAt, strategyAt}
 use Rattle.message_fields.specs.Legal.{legalb}
 use Rattle.message_fields.specs.declared.Answer.the-variants.{Done, Refused}
-use Rattle.message_fields.specs.declared.Answer.{Answer}
 use Rattle.message_fields.specs.declared.Fields.{Fields}
-use Rattle.message_fields.specs.declared.Refusal.the-variants.{Short, Version, Field}
-use Rattle.message_fields.specs.declared.Refusal.{Refusal}
+use Rattle.message_fields.specs.declared.Refusal.the-variants.{Short, Field}
 use Rattle.pages.proofs.Numbers.{split}
+use Rattle.refusals.specs.AnswerNumbers.{sliceTooShort, otherVersion, brokenField}
 
--- ---- the answers
+-- ---- what is read
 
 module _ (b : List ℕ) where
-  pub read-short : length b < leastLength → readAnswer b ≡ Refused Short
-  unfolding readAnswer
+  pub read-short : length b < leastLength → reading b ≡ refusedRead sliceTooShort
+  unfolding reading
   read-short h = rw (lt-ltb (length b) leastLength h)
 
-  pub read-version : leastLength ≤ length b → (valueAt versionAt strategyAt b ≡ version → ⊥) → readAnswer b ≡ Refused Version
-  unfolding readAnswer
+  pub read-version : leastLength ≤ length b → (valueAt versionAt strategyAt b ≡ version → ⊥) → reading b ≡ refusedRead otherVersion
+  unfolding reading
   read-version h k = rw (le-ltb (length b) leastLength h, ne-eqb (valueAt versionAt strategyAt b) version k)
 
-  pub read-field : leastLength ≤ length b → valueAt versionAt strategyAt b ≡ version → legalb (fieldsOf b) ≡ false → readAnswer b ≡ Refused Field
-  unfolding readAnswer
+  pub read-field : leastLength ≤ length b → valueAt versionAt strategyAt b ≡ version → legalb (fieldsOf b) ≡ false → reading b ≡ refusedRead brokenField
+  unfolding reading
   read-field h k n = rw (le-ltb (length b) leastLength h, eq-eqb (valueAt versionAt strategyAt b) version k, n)
 
-  pub read-done : leastLength ≤ length b → valueAt versionAt strategyAt b ≡ version → legalb (fieldsOf b) ≡ true → readAnswer b ≡ Done
-  unfolding readAnswer
+  pub read-done : leastLength ≤ length b → valueAt versionAt strategyAt b ≡ version → legalb (fieldsOf b) ≡ true
+      → reading b ≡ record { refusal = 0; fields = fieldsOf b }
+  unfolding reading
   read-done h k n = rw (le-ltb (length b) leastLength h, eq-eqb (valueAt versionAt strategyAt b) version k, n)
 
-  pub done-fits : readAnswer b ≡ Done → leastLength ≤ length b
+  -- ---- where the part behind it starts
+
+  pub follows-refused : {n : ℕ} → 0 < n → reading b ≡ refusedRead n → followsAt (reading b) ≡ 0
+  follows-refused h e = rw e (follows-whole _ h)
+
+  pub follows-done : {f : Fields} → reading b ≡ record { refusal = 0; fields = f } → followsAt (reading b) ≡ lengthOf f
+  follows-done e = rw e (follows-behind _ refl)
+
+  done-fits : reading b .refusal ≡ 0 → lengthOf (reading b .fields) ≤ length b
   done-fits e =
       split leastLength (length b) (λ h. h)
-      (λ h. let r : readAnswer b ≡ Refused Short = read-short h in
-      let z : _≡_ {A = ℕ} 0 1 = cc in
-      omega arith)
-
-module _ (f : Fields) (n : ℕ) where
-  pub write-field : legalb f ≡ false → writeAnswer f n ≡ Refused Field
-  unfolding writeAnswer
-  write-field h = rw h
-
-  pub write-short : legalb f ≡ true → n < lengthOf f → writeAnswer f n ≡ Refused Short
-  unfolding writeAnswer
-  write-short h k = rw (h, lt-ltb n (lengthOf f) k)
-
-  pub write-done : legalb f ≡ true → lengthOf f ≤ n → writeAnswer f n ≡ Done
-  unfolding writeAnswer
-  write-done h k = rw (h, le-ltb n (lengthOf f) k)
-
--- ---- by the answer
-
-module _ (b : List ℕ) where
-  pub reading-refused : {r : Refusal} → readAnswer b ≡ Refused r → reading b ≡ refusedRead r
-  unfolding reading refusedRead
-  reading-refused e = rw e
-
-  pub reading-done : readAnswer b ≡ Done → reading b ≡ record { answer = Done; fields = fieldsOf b }
-  unfolding reading
-  reading-done e = rw e
-
-  pub follows-refused : {r : Refusal} → readAnswer b ≡ Refused r → followsAt (reading b) ≡ 0
-  unfolding reading
-  follows-refused e = follows-whole (reading b) e
-
-  pub follows-done : readAnswer b ≡ Done → followsAt (reading b) ≡ lengthOf (fieldsOf b)
-  unfolding reading
-  follows-done e = follows-behind (reading b) e
+      (λ h. let r : reading b .refusal ≡ sliceTooShort = ap (λ (o : ReadOutcome). o .refusal) (read-short h) in absurd (omega arith))
 
   pub follows-fits : followsAt (reading b) ≤ length b
-  follows-fits = go (readAnswer b) refl
-    where
-      go : (a : Answer) → readAnswer b ≡ a → followsAt (reading b) ≤ length b
-      go (Refused r) e = rw (follows-refused e) zero-le
-      go Done e = rw (follows-done e) (done-fits b e)
+  follows-fits =
+      split 1 (reading b .refusal)
+      (λ k. rw (follows-whole (reading b) k) zero-le)
+      (λ k. let e : reading b .refusal ≡ 0 = omega arith in rw (follows-behind (reading b) e) (done-fits e))
+
+-- ---- what is written
 
 module _ (f : Fields) (b : List ℕ) where
-  pub written-refused : {r : Refusal} → writeAnswer f (length b) ≡ Refused r → written f b ≡ b
+  pub write-field : legalb f ≡ false → written f b ≡ refusedWrite brokenField b
   unfolding written
-  written-refused e = rw e
+  write-field h = rw h
 
-  pub written-done : writeAnswer f (length b) ≡ Done → written f b ≡ messageOf f ++ drop (lengthOf f) b
+  pub write-short : legalb f ≡ true → length b < lengthOf f → written f b ≡ refusedWrite sliceTooShort b
   unfolding written
-  written-done e = rw e
+  write-short h k = rw (h, lt-ltb (length b) (lengthOf f) k)
 
-  -- what a write did, by the tests of the code
-  pub wrote-field : Held f → legalb f ≡ false → Wrote f b (Refused Field) b
-  wrote-field h l =
-      let w = write-field f (length b) l in
-      record { held = h; answer = sym w; bytes = sym (written-refused w) }
+  pub write-done : legalb f ≡ true → lengthOf f ≤ length b → written f b ≡ record { refusal = 0; bytes = messageOf f ++ drop (lengthOf f) b }
+  unfolding written
+  write-done h k = rw (h, le-ltb (length b) (lengthOf f) k)
 
-  pub wrote-short : Held f → legalb f ≡ true → length b < lengthOf f → Wrote f b (Refused Short) b
-  wrote-short h l n =
-      let w = write-short f (length b) l n in
-      record { held = h; answer = sym w; bytes = sym (written-refused w) }
+  -- ---- what a write did
 
-  pub wrote-done : {c : List ℕ} → Held f → legalb f ≡ true → lengthOf f ≤ length b → c ≡ messageOf f ++ drop (lengthOf f) b → Wrote f b Done c
-  wrote-done h l n e =
-      let w = write-done f (length b) l n in
-      record { held = h; answer = sym w; bytes = e ∙ sym (written-done w) }
+  pub wrote-field : Held f → legalb f ≡ false → Wrote f b (writeSaid (Refused Field) b)
+  wrote-field h l = record { held = h; outcome = sym (write-field l) }
+
+  pub wrote-short : Held f → legalb f ≡ true → length b < lengthOf f → Wrote f b (writeSaid (Refused Short) b)
+  wrote-short h l n = record { held = h; outcome = sym (write-short l n) }
+
+  pub wrote-done : {c : List ℕ} → Held f → legalb f ≡ true → lengthOf f ≤ length b → c ≡ messageOf f ++ drop (lengthOf f) b
+      → Wrote f b (writeSaid Done c)
+  wrote-done h l n e = record { held = h; outcome = ap (writeSaid Done) e ∙ sym (write-done l n) }

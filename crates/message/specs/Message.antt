@@ -1,14 +1,15 @@
--- The calls of document 01 on a message: what read, rest and write give for any bytes.
+-- The calls of document 01 on a message: what read, rest and write give for any bytes, in its numbers.
 --
---   readAnswer b          what read answers for the bytes b
---   reading b             what it hands back: the answer, and the fields, which are those of `noFields` on a refusal
+--   reading b             what read hands back for the bytes b: its number and the fields, which are those of `noFields` on a refusal
 --   following b           the part behind the message: all of b on a refusal
---   writeAnswer f n       what write answers for the fields f and n lent bytes
---   written f b           the lent bytes b afterwards: as they came on a refusal
---   Wrote f b a c         write answered a and made c of b; f is held, so that the round trip of specs/Promises.antt asks nothing more
+--   WriteOutcome          what a write leaves: its refusal number (0 if accepted), and every lent byte
+--   writeSaid a c         what a write said with the answer a, and left in the bytes c
+--   refusedWrite n b      refused with n: the bytes b as they came
+--   written f b           what a write of the fields f into the bytes b leaves
+--   Wrote f b o           a write of f into b left o; f is held, so that the round trip of specs/Promises.antt asks nothing more
 --
--- Assumes nothing. What is proved of these is in specs/Promises.antt. Not here: the fields, the answers and where the part behind a message
--- starts (message_fields/specs), the fields in bytes (message_bytes/specs).
+-- Assumes nothing. What is proved of these is in specs/Promises.antt. Not here: the fields, the answers with their numbers and where the part
+-- behind a message starts (message_fields/specs), the fields in bytes (message_bytes/specs).
 use mathlib.Core.Path.{_≡_}
 use mathlib.Core.Bool.{cond, not}
 use mathlib.Core.List.{List, _++_}
@@ -17,38 +18,39 @@ use lib.Dec.{ltb, eqb}
 use lib.ListN.{length, drop}
 use Rattle.little.specs.Little.{valueAt}
 use Rattle.message_fields.specs.declared.Fields.{Fields}
-use Rattle.message_fields.specs.declared.Read.{Read}
-use Rattle.message_fields.specs.declared.Refusal.the-variants.{Short, Version, Field}
 use Rattle.message_fields.specs.declared.Answer.{Answer}
-use Rattle.message_fields.specs.declared.Answer.the-variants.{Done, Refused}
-use Rattle.message_fields.specs.Fields.{version, Held, leastLength, lengthOf, noFields, whenDone, followsAt}
+use Rattle.message_fields.specs.Fields.{version, Held, leastLength, lengthOf, numberOf, ReadOutcome, refusedRead, followsAt}
 use Rattle.message_fields.specs.Layout.{versionAt, strategyAt}
 use Rattle.message_fields.specs.Legal.{legalb}
 use Rattle.message_bytes.specs.Parts.{fieldsOf, messageOf}
+use Rattle.refusals.specs.AnswerNumbers.{sliceTooShort, otherVersion, brokenField}
 
-unfoldable pub readAnswer : List ℕ → Answer
-readAnswer b =
-    cond (ltb (length b) leastLength) (Refused Short)
-    (cond (not (eqb (valueAt versionAt strategyAt b) version)) (Refused Version)
-    (cond (not (legalb (fieldsOf b))) (Refused Field)
-    Done))
-
-unfoldable pub reading : List ℕ → Read
-reading b = record { answer = readAnswer b; fields = whenDone (readAnswer b) (fieldsOf b) noFields }
+unfoldable pub reading : List ℕ → ReadOutcome
+reading b =
+    cond (ltb (length b) leastLength) (refusedRead sliceTooShort)
+    (cond (not (eqb (valueAt versionAt strategyAt b) version)) (refusedRead otherVersion)
+    (cond (not (legalb (fieldsOf b))) (refusedRead brokenField)
+    (record { refusal = 0; fields = fieldsOf b })))
 
 unfoldable pub following : List ℕ → List ℕ
 following b = drop (followsAt (reading b)) b
 
-unfoldable pub writeAnswer : Fields → ℕ → Answer
-writeAnswer f n =
-    cond (not (legalb f)) (Refused Field)
-    (cond (ltb n (lengthOf f)) (Refused Short)
-    Done)
+pub record WriteOutcome : Type 0 where
+  pub refusal : ℕ
+  pub bytes : List ℕ
 
-unfoldable pub written : Fields → List ℕ → List ℕ
-written f b = whenDone (writeAnswer f (length b)) (messageOf f ++ drop (lengthOf f) b) b
+abbrev pub writeSaid : Answer → List ℕ → WriteOutcome
+writeSaid a c = record { refusal = numberOf a; bytes = c }
 
-pub record Wrote (f : Fields) (b : List ℕ) (a : Answer) (c : List ℕ) : Type 0 where
+abbrev pub refusedWrite : ℕ → List ℕ → WriteOutcome
+refusedWrite n b = record { refusal = n; bytes = b }
+
+unfoldable pub written : Fields → List ℕ → WriteOutcome
+written f b =
+    cond (not (legalb f)) (refusedWrite brokenField b)
+    (cond (ltb (length b) (lengthOf f)) (refusedWrite sliceTooShort b)
+    (record { refusal = 0; bytes = messageOf f ++ drop (lengthOf f) b }))
+
+pub record Wrote (f : Fields) (b : List ℕ) (o : WriteOutcome) : Type 0 where
   pub held : Held f
-  pub answer : a ≡ writeAnswer f (length b)
-  pub bytes : c ≡ written f b
+  pub outcome : o ≡ written f b

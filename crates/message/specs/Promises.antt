@@ -12,9 +12,9 @@
 --   WriteRow f b n c      write answers n and makes c of the lent bytes b
 --
 --   ReadExact .. WriteExact   the definitions meet the rows, and nothing else does
---   Message b, Accepted   b starts with a message: it says legal fields; exactly such bytes are accepted
+--   Message b, Acceptance  b starts with a message: it says legal fields; exactly such bytes are accepted
 --   RoundTrip             what is written reads back to equal fields, and what is read writes back to equal bytes
---   Unique                any two results that the rows allow are equal; bytes say one thing, and fields are said in one way
+--   OneMeaning            any two results that the rows allow are equal; bytes say one thing, and fields are said in one way
 --
 -- Assumes nothing.
 use mathlib.Core.Path.{_≡_}
@@ -27,12 +27,11 @@ use Rattle.little.specs.Little.{valueAt, Bytes}
 use Rattle.message_fields.specs.declared.Fields.{Fields}
 use Rattle.message_fields.specs.declared.Read.{Read}
 use Rattle.message_fields.specs.declared.Answer.{Answer}
-use Rattle.message_fields.specs.declared.Answer.the-variants.{Done}
-use Rattle.message_fields.specs.Fields.{numberOf, version, lengthOf, Held, noFields}
+use Rattle.message_fields.specs.Fields.{numberOf, version, lengthOf, Held, noFields, ReadOutcome}
 use Rattle.message_fields.specs.Layout.{versionAt, strategyAt, persistAt, thresholdAt, pageAt, pageEndAt, eoaAt, smallAt, largeAt}
 use Rattle.message_fields.specs.Layout.{messageLength, types, addressWidth}
 use Rattle.message_fields.specs.Legal.{lastStrategy, lastPersist, undefined}
-use Rattle.message.specs.Message.{readAnswer, reading, following, written, Wrote}
+use Rattle.message.specs.Message.{reading, following, WriteOutcome, written, Wrote}
 use Rattle.refusals.specs.AnswerNumbers.{sliceTooShort, otherVersion, brokenField}
 
 -- ---- the fields
@@ -87,7 +86,7 @@ pub data WriteRow (f : Fields) (b : List ℕ) (n : ℕ) (c : List ℕ) : Type 0 
 -- ---- the theorems
 
 abbrev pub ReadExact : Type 0
-ReadExact = (b : List ℕ) (r : Read) → (r ≡ reading b) ↔ ReadRow b (numberOf (r .answer)) (r .fields)
+ReadExact = (b : List ℕ) (o : ReadOutcome) → (o ≡ reading b) ↔ ReadRow b (o .refusal) (o .fields)
 
 abbrev pub RestExact : Type 0
 RestExact = (b c : List ℕ) → (c ≡ following b) ↔ RestRow b c
@@ -95,25 +94,26 @@ RestExact = (b c : List ℕ) → (c ≡ following b) ↔ RestRow b c
 -- the lent memory holds bytes, before and after
 abbrev pub WriteExact : Type 0
 WriteExact =
-    (f : Fields) (b : List ℕ) (a : Answer) (c : List ℕ) → Held f → Bytes b → Bytes c → Wrote f b a c ↔ WriteRow f b (numberOf a) c
+    (f : Fields) (b : List ℕ) (o : WriteOutcome) → Held f → Bytes b → Bytes (o .bytes) → Wrote f b o ↔ WriteRow f b (o .refusal) (o .bytes)
 
 pub record Message (b : List ℕ) : Type 0 where
   pub fields : Fields
   pub says : Says fields b
   pub legal : Legal fields
 
-abbrev pub Accepted : Type 0
-Accepted = (b : List ℕ) → (readAnswer b ≡ Done) ↔ Message b
+abbrev pub Acceptance : Type 0
+Acceptance = (b : List ℕ) → (reading b .refusal ≡ 0) ↔ Message b
 
 pub record RoundTrip : Type 0 where
   pub write-read : (f : Fields) (b : List ℕ) → Held f → Legal f → lengthOf f ≤ length b
-      → reading (written f b) ≡ record { answer = Done; fields = f }
-  pub write-rest : (f : Fields) (b : List ℕ) → Held f → Legal f → lengthOf f ≤ length b → following (written f b) ≡ drop (lengthOf f) b
-  pub read-write : (b c : List ℕ) → Bytes b → readAnswer b ≡ Done → lengthOf (reading b .fields) ≤ length c
-      → written (reading b .fields) c ≡ take (lengthOf (reading b .fields)) b ++ drop (lengthOf (reading b .fields)) c
+      → reading (written f b .bytes) ≡ record { refusal = 0; fields = f }
+  pub write-rest : (f : Fields) (b : List ℕ) → Held f → Legal f → lengthOf f ≤ length b → following (written f b .bytes) ≡ drop (lengthOf f) b
+  pub read-write : (b c : List ℕ) → Bytes b → reading b .refusal ≡ 0 → lengthOf (reading b .fields) ≤ length c
+      → written (reading b .fields) c
+      ≡ record { refusal = 0; bytes = take (lengthOf (reading b .fields)) b ++ drop (lengthOf (reading b .fields)) c }
   pub read-held : (b : List ℕ) → Bytes b → Held (reading b .fields)
 
-pub record Unique : Type 0 where
+pub record OneMeaning : Type 0 where
   pub read : (b : List ℕ) (r s : Read) → ReadRow b (numberOf (r .answer)) (r .fields) → ReadRow b (numberOf (s .answer)) (s .fields) → r ≡ s
   pub rest : (b c d : List ℕ) → RestRow b c → RestRow b d → c ≡ d
   pub write : (f : Fields) (b : List ℕ) (a z : Answer) (c d : List ℕ) → Held f → Bytes b → Bytes c → Bytes d

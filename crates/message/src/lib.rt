@@ -6,7 +6,8 @@ pub use message_fields::Read;
 pub use message_fields::Refusal;
 pub use message_fields::number_of;
 ghost use mathlib.Core.Path.{_≡_};
-ghost use Rattle.message.specs.Message.{reading, following, Wrote};
+ghost use Rattle.message_fields.specs.Fields.{readSaid};
+ghost use Rattle.message.specs.Message.{reading, following, writeSaid, Wrote};
 use message_bytes::fields_of;
 use message_bytes::put_fields;
 use message_fields::LEAST_LENGTH;
@@ -19,7 +20,7 @@ use message_fields::refused;
 
 // The fields of the message that the bytes start with, or why there is none.
 pub fn read(bytes: &[u8]) -> Read
-    ensures { λ r. ⌜ r ≡ reading (now (bytes .entry)) ⌝ }
+    ensures { λ r. ⌜ readSaid r ≡ reading (now (bytes .entry)) ⌝ }
 {
     if bytes.len() < LEAST_LENGTH {
         return refused(Refusal::Short);
@@ -48,7 +49,7 @@ pub fn rest(bytes: &[u8]) -> &[u8]
 
 // Writes the message of the fields to the front of `out`.
 pub fn write(fields: Fields, out: &mut [u8]) -> Answer
-    ensures { λ r. ⌜ Wrote fields (now (out .entry)) r (now (out .exit)) ⌝ }
+    ensures { λ r. ⌜ Wrote fields (now (out .entry)) (writeSaid r (now (out .exit))) ⌝ }
 {
     if is_legal(fields) {
         let needed = length_of(fields);

@@ -6,14 +6,17 @@
 --   lengthOf f            how long the message of f is
 --   noFields              the fields of a refused message: all 0
 --
---   numberOf a            document 01's number for an answer
---   whenDone a x y        x where the answer is done, y where it is a refusal
---   refusedRead r         what reading hands back with the refusal r
---   followsAt r           where the part behind the read message r starts: at the front on a refusal
+--   numberOf a            document 01's number for an answer; refusalNumber why for a refusal
+--   ReadOutcome           what reading hands back: its refusal number (0 if accepted), and the fields
+--   readSaid r            what a read said, in document 01's numbers
+--   refusedRead n         refused with n: no fields
+--   followsAt o           where the part behind a message that was read as o starts: at the front on a refusal
 --
 -- Assumes nothing. Laws are in proofs/FieldLaws.antt.
+use mathlib.Core.Bool.{cond}
 use mathlib.Core.Path.{_≡_}
 use Prim.Native.Nat.{ℕ, _-_, _^_, _<_}
+use lib.Dec.{eqb}
 use lib.ListN.{length, replicate}
 use Rattle.little.specs.Little.{byteValues, Below}
 use Rattle.message_fields.specs.declared.Fields.{Fields}
@@ -64,18 +67,24 @@ noFields =
 
 -- ---- the answers
 
+abbrev pub refusalNumber : Refusal → ℕ
+refusalNumber Short = sliceTooShort
+refusalNumber Version = otherVersion
+refusalNumber Field = brokenField
+
 abbrev pub numberOf : Answer → ℕ
 numberOf Done = 0
-numberOf (Refused Short) = sliceTooShort
-numberOf (Refused Version) = otherVersion
-numberOf (Refused Field) = brokenField
+numberOf (Refused why) = refusalNumber why
 
-abbrev pub whenDone : {A : Type 0} → Answer → A → A → A
-whenDone Done x y = x
-whenDone (Refused r) x y = y
+pub record ReadOutcome : Type 0 where
+  pub refusal : ℕ
+  pub fields : Fields
 
-unfoldable pub refusedRead : Refusal → Read
-refusedRead r = record { answer = Refused r; fields = noFields }
+abbrev pub readSaid : Read → ReadOutcome
+readSaid r = record { refusal = numberOf (r .answer); fields = r .fields }
 
-unfoldable pub followsAt : Read → ℕ
-followsAt r = whenDone (r .answer) (lengthOf (r .fields)) 0
+abbrev pub refusedRead : ℕ → ReadOutcome
+refusedRead n = record { refusal = n; fields = noFields }
+
+unfoldable pub followsAt : ReadOutcome → ℕ
+followsAt o = cond (eqb (o .refusal) 0) (lengthOf (o .fields)) 0

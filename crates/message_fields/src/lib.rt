@@ -3,7 +3,7 @@
 pub mod legal;
 
 ghost use mathlib.Core.Path.{_≡_};
-ghost use Rattle.message_fields.specs.Fields.{numberOf, noFields, refusedRead, lengthOf, followsAt};
+ghost use Rattle.message_fields.specs.Fields.{numberOf, refusalNumber, noFields, readSaid, refusedRead, lengthOf, followsAt};
 use refusals::BROKEN_FIELD;
 use refusals::DONE;
 use refusals::OTHER_VERSION;
@@ -92,7 +92,7 @@ pub fn length_of(_fields: Fields) -> usize
 
 // Where the part behind the message starts: at the front where the message is refused.
 pub fn follows_at(message: Read) -> usize
-    ensures { λ r. ⌜ r ≡ followsAt message ⌝ }
+    ensures { λ r. ⌜ r ≡ followsAt (readSaid message) ⌝ }
 {
     let answer = message.answer;
     match answer {
@@ -122,7 +122,7 @@ pub fn no_fields() -> Fields
 
 // A refused message.
 pub fn refused(why: Refusal) -> Read
-    ensures { λ r. ⌜ r ≡ refusedRead why ⌝ }
+    ensures { λ r. ⌜ readSaid r ≡ refusedRead (refusalNumber why) ⌝ }
 {
     Read {
         answer: Answer::Refused(why),
