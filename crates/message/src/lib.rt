@@ -28,11 +28,11 @@ pub fn read(bytes: &[u8]) -> Read
     if bytes[VERSION_AT] != VERSION {
         return refused(Refusal::Version);
     }
-    let fields = fields_of(bytes);
-    if is_legal(fields) {
+    let found = fields_of(bytes);
+    if is_legal(found) {
         return Read {
             answer: Answer::Done,
-            fields: fields,
+            fields: found,
         };
     }
     refused(Refusal::Field)

@@ -7,8 +7,9 @@ use Rattle.little.proofs.LittleLaws.{value-byte}
 use Rattle.little.specs.Little.{valueAt}
 use Rattle.message.proofs.AnswerLaws.{read-short, read-version, read-field, read-done}
 use Rattle.message_fields.specs.Layout.{versionAt, strategyAt}
-use Rattle.message_fields.specs.Fields.{version}
+use Rattle.message_fields.specs.Fields.{version, readSaid, refusedRead}
 use Rattle.message_fields.specs.Legal.{legalb}
+use Rattle.refusals.specs.AnswerNumbers.{sliceTooShort, otherVersion, brokenField}
 use Rattle.message.proofs.read.Statement.{statement}
 use Rattle.message.proofs.read.Tie as tie
 
@@ -17,7 +18,8 @@ refused-requires c κs = search needs
 
 returns : tie.Need-returns
 returns c = let b = c .before .before .before .args .bytes .now in
-    c .refused .ensures ∙ sym (read-short b (c .before .if1 .taken))
+    let r : readSaid (c .refused .result) ≡ refusedRead sliceTooShort = c .refused .ensures in
+    r ∙ sym (read-short b (c .before .if1 .taken))
 
 shared-slice-read-if2 : tie.Need-shared-slice-read-if2
 shared-slice-read-if2 c = search needs
@@ -29,7 +31,8 @@ returns-2 : tie.Need-returns-2
 returns-2 c = let b = c .before .before .before .before .before .args .bytes .now in
     let n : getD b versionAt 0 ≡ version → ⊥ = c .before .if2 .taken in
     let v : valueAt versionAt strategyAt b ≡ getD b versionAt 0 = value-byte versionAt b (search needs) in
-    c .refused2 .ensures ∙ sym (read-version b (c .before .before .before .if1 .left) (λ e. n (sym v ∙ e)))
+    let r : readSaid (c .refused2 .result) ≡ refusedRead otherVersion = c .refused2 .ensures in
+    r ∙ sym (read-version b (c .before .before .before .if1 .left) (λ e. n (sym v ∙ e)))
 
 fields-of-requires : tie.Need-fields-of-requires
 fields-of-requires c κs = search needs
@@ -54,7 +57,8 @@ returns-4 c = let b = c .before .before .before .before .before .before .before 
     let v : valueAt versionAt strategyAt b ≡ getD b versionAt 0 = value-byte versionAt b (search needs) in
     let f = c .before .before .before .fields-of .ensures in
     let l = sym (ap legalb f) ∙ sym (c .before .before .is-legal .ensures) ∙ c .before .if3 .left in
-    c .refused3 .ensures ∙ sym (read-field b (c .before .before .before .before .before .before .if1 .left) (v ∙ w) l)
+    let r : readSaid (c .refused3 .result) ≡ refusedRead brokenField = c .refused3 .ensures in
+    r ∙ sym (read-field b (c .before .before .before .before .before .before .if1 .left) (v ∙ w) l)
 
 pub read-spec : {M : Type 1} → statement M
 read-spec =

@@ -26,13 +26,13 @@ starts : (c : tie.After-follows-at) → c .follows-at .result ≤ length (c .bef
 starts c = rw (place c) (follows-fits (c .before .before .before .args .bytes .now))
 
 sub-result : tie.Need-sub-result
-sub-result c = starts c
+sub-result c = omega (arith, starts c)
 
 part-result-start : tie.Need-part-result-start
-part-result-start c = starts c
+part-result-start c = omega (arith, starts c)
 
 part-result-end : tie.Need-part-result-end
-part-result-end c = search needs
+part-result-end c = omega (arith, starts c)
 
 returns : tie.Need-returns
 unfolding following

@@ -1,6 +1,7 @@
 -- `message::write` meets its contract: each return is the answer after the tests that led to it, and only the last step writes.
 -- Assumes nothing.
-use mathlib.Core.Path.{sym, _∙_}
+use mathlib.Core.Bool.{true}
+use mathlib.Core.Path.{_≡_, sym, _∙_}
 use native.Mathlib.Omega.{arith}
 use lib.ListN.{getD}
 use borrow.Author.Needs.{needs}
@@ -36,7 +37,8 @@ length-of-requires c κs = search needs
 returns : tie.Need-returns
 returns c =
     let start = c .before .before .before .before .before in
-    let legal = sym (c .before .before .before .is-legal .ensures) ∙ c .before .before .if1 .taken in
+    let told : c .before .before .before .is-legal .result ≡ true = c .before .before .if1 .taken in
+    let legal = sym (c .before .before .before .is-legal .ensures) ∙ told in
     wrote-short (start .args .fields) (start .args .out .now) (held start) legal (omega arith)
 
 put-fields-requires : tie.Need-put-fields-requires
