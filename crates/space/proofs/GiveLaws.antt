@@ -40,11 +40,12 @@ use Rattle.rules.proofs.SpliceLaws.{remove-at, resize-at}
 use Rattle.rules.specs.Editing.{names, remove, resize}
 use Rattle.settle.specs.Settle.{SettleFits}
 use Rattle.space.proofs.OutcomeLaws.{refusing-yes, refusing-no, sound-true}
-use Rattle.space.specs.Giving.{nameOf, namedAs, namedIn, whenNamed, naming, releasedAt, released}
+use Rattle.space.specs.Giving.{nameOf, namedAs, namedIn, whyNot, whenNamed, naming, releasedAt, released}
 use Rattle.space.specs.Giving.{entriesBehind, newSize, resizedTo, resizedAt, resized}
 use Rattle.space.specs.Halves.{FoundIn, livesAround}
 use Rattle.space.specs.Outcomes.{SoundSpace, soundb, entriesOf, livesOf, Outcome, refused, plain, settled}
 use Rattle.space.specs.declared.Space.{Space}
+use Rattle.space.specs.declared.give.Named.{Named}
 use Rattle.space.specs.declared.give.Named.the-variants.{At, Not}
 use Rattle.space.specs.declared.give.NewSize.{NewSize}
 use Rattle.space.specs.declared.give.NewSize.the-variants.{Bytes, Kept}
@@ -99,10 +100,13 @@ module _ (sp : Space) (w : List ℕ) (zero : Bool) (a z : ℕ) where
   unfolding naming
   naming-sound found s = refusing-no plain sp w _ notSound _ (ap not (sound-true sp w s))
 
-  pub naming-not : (found : ℕ → Piece → Outcome) → SoundSpace sp w → (why : NotNamed) → Not why ≡ namedIn sp w zero a z
-      → naming sp w zero a z found ≡ refused (notNamedNumber why) sp w
+  -- r is what the code's front answered, and y what it said of the refusal
+  pub naming-not : (found : ℕ → Piece → Outcome) → SoundSpace sp w → {r : Named} {why y : NotNamed} → r ≡ namedIn sp w zero a z → r ≡ Not why
+      → y ≡ whyNot r → naming sp w zero a z found ≡ refused (notNamedNumber y) sp w
   unfolding whenNamed
-  naming-not found s why q = naming-sound found s ∙ ap (whenNamed sp w found) (sym q)
+  naming-not found s {why = why} {y = y} named told says =
+      let y-is : why ≡ y = sym (says ∙ ap whyNot told) in
+      naming-sound found s ∙ (ap (whenNamed sp w found) (sym named ∙ told) ∙ ap (λ (v : NotNamed). refused (notNamedNumber v) sp w) y-is)
 
   -- what is done to the piece that was found, which goes by its own address and size
   naming-found : (found : ℕ → ℕ → ℕ → Piece → Outcome) → SoundSpace sp w → (i : ℕ) (x : Piece) → At i x ≡ namedIn sp w zero a z

@@ -3,6 +3,7 @@
 --   nameOf a z                     a piece by its address and size
 --   namedIn sp w zero a z          the front of the three calls, on a sound table: the entry of the named piece, or the refusal. `zero` says that
 --                                  a size or change is 0, where the call has that refusal
+--   whyNot r                       the refusal of a name r that has no entry
 --   naming sp w zero a z found     2, state and table are not sound; the refusal of the name; and else what `found` gives of its entry
 --   releasedAt sp a z w i x        the piece x, entry i, is released
 --   released sp a z w              a release
@@ -23,6 +24,7 @@ use Rattle.pieces.specs.Words.{entries}
 use Rattle.pieces.specs.declared.Piece.{Piece}
 use Rattle.refusals.specs.AnswerNumbers.{notSound, notNamedNumber, notResizedNumber}
 use Rattle.refusals.specs.declared.NotNamed.the-variants.{NoBytes, NotLive}
+use Rattle.refusals.specs.declared.NotNamed.{NotNamed}
 use Rattle.refusals.specs.declared.NotResized.the-variants.{NoRoomBehind, BeyondLimit, TooLittleLeft}
 use Rattle.room.specs.Room.{roomBehindb, growsBeyondb, remainsb}
 use Rattle.rules.specs.Editing.{Name, remove, resize}
@@ -46,6 +48,11 @@ namedAs finding.Missing = Not NotLive
 
 unfoldable pub namedIn : Space → List ℕ → Bool → ℕ → ℕ → Named
 namedIn sp w zero a z = cond zero (Not NoBytes) (namedAs (findLive a z 0 (entriesOf sp w)))
+
+-- one that has an entry is never asked for it
+abbrev pub whyNot : Named → NotNamed
+whyNot (At i x) = NotLive
+whyNot (Not why) = why
 
 unfoldable pub whenNamed : Space → List ℕ → (ℕ → Piece → Outcome) → Named → Outcome
 whenNamed sp w found (At i x) = found i x

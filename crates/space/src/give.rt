@@ -1,7 +1,7 @@
 // Giving back, lengthening, shortening. Each names a live piece by its exact address and size.
 ghost use mathlib.Core.Path.{_≡_};
 ghost use Prim.Native.Nat.{_+_, _≤_};
-ghost use Rattle.space.specs.Giving.{namedIn, releasedAt, released, newSize, resizedTo, resizedAt, resized, extended, shortened};
+ghost use Rattle.space.specs.Giving.{whyNot, namedIn, releasedAt, released, newSize, resizedTo, resizedAt, resized, extended, shortened};
 ghost use Rattle.space.specs.Halves.{FoundIn};
 ghost use Rattle.space.specs.Outcomes.{SoundSpace};
 ghost use Rattle.space.specs.Said.{releaseSaid, resizeSaid, extendSaid, shortenSaid};
@@ -21,6 +21,18 @@ use settle::Settling;
 pub enum Named {
     At(usize, Piece),
     Not(NotNamed),
+}
+
+impl Named {
+    // Why there is none. Of an entry that is named nobody asks it.
+    fn why(self) -> NotNamed
+        ensures { λ r. ⌜ r ≡ whyNot self ⌝ }
+    {
+        match self {
+            Named::At(_, _) => NotNamed::NotLive,
+            Named::Not(why) => why,
+        }
+    }
 }
 
 // Which way a piece is resized.
@@ -70,13 +82,14 @@ impl Space {
         requires { ⌜ SoundSpace self (now table) ⌝ }
         ensures { λ r. ⌜ releaseSaid r (now (table .exit)) ≡ released self address size (now (table .entry)) ⌝ }
     {
-        match self.named(table, false, address, size) {
-            Named::At(i, piece) => self.release_found(table, i, piece),
-            Named::Not(why) => Released {
+        let named = self.named(table, false, address, size);
+        let Named::At(i, piece) = named else {
+            return Released {
                 space: self,
-                answer: ReleaseAnswer::NotNamed(why),
-            },
-        }
+                answer: ReleaseAnswer::NotNamed(named.why()),
+            };
+        };
+        self.release_found(table, i, piece)
     }
 
     fn release_found(self, table: &mut [u64], i: usize, piece: Piece) -> Released
@@ -134,13 +147,14 @@ impl Space {
         ensures { λ r. ⌜ resizeSaid r (now (table .exit)) ≡ resized self address size way by (now (table .entry)) ⌝ }
     {
         let zero = requests::is_zero(size, by);
-        match self.named(table, zero, address, size) {
-            Named::At(i, piece) => self.resize_found(table, i, piece, way, by),
-            Named::Not(why) => Resized {
+        let named = self.named(table, zero, address, size);
+        let Named::At(i, piece) = named else {
+            return Resized {
                 space: self,
-                answer: ResizeAnswer::NotNamed(why),
-            },
-        }
+                answer: ResizeAnswer::NotNamed(named.why()),
+            };
+        };
+        self.resize_found(table, i, piece, way, by)
     }
 
     // The found piece becomes so many bytes longer or shorter.
