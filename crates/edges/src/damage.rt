@@ -134,7 +134,7 @@ fn word_at(s: Scene, i: usize) -> u64 {
     0
 }
 
-fn with_word(s: Scene, i: usize, value: u64) -> Scene {
+pub fn with_word(s: Scene, i: usize, value: u64) -> Scene {
     let mut words = s.words;
     let space = s.space;
     if i < scene::WORDS {
@@ -230,17 +230,21 @@ fn judge(t: Tally, text: &[u8], k: u64, held: bool) -> Tally {
     t.count(held)
 }
 
-// That with this state every call refuses 2.
-fn breaks(t: Tally, text: &[u8], k: u64, page: u64, limit: u64, end: u64, count: u64) -> Tally {
-    judge(
-        t,
-        text,
-        k,
-        is_broken(scenes::with_state(page, limit, end, count)),
-    )
+// That every call refuses 2.
+pub fn broken(t: Tally, text: &[u8], k: u64, s: Scene) -> Tally {
+    judge(t, text, k, is_broken(s))
 }
 
-// That with this state no call refuses 2, but what comes after it.
+// That no call refuses 2, but what comes after it.
+pub fn sound(t: Tally, text: &[u8], k: u64, s: Scene) -> Tally {
+    judge(t, text, k, is_sound(s))
+}
+
+// The same of the words after step 5, with this state.
+fn breaks(t: Tally, text: &[u8], k: u64, page: u64, limit: u64, end: u64, count: u64) -> Tally {
+    broken(t, text, k, scenes::with_state(page, limit, end, count))
+}
+
 fn stays_sound(
     t: Tally,
     text: &[u8],
@@ -250,12 +254,7 @@ fn stays_sound(
     end: u64,
     count: u64,
 ) -> Tally {
-    judge(
-        t,
-        text,
-        k,
-        is_sound(scenes::with_state(page, limit, end, count)),
-    )
+    sound(t, text, k, scenes::with_state(page, limit, end, count))
 }
 
 fn pages_and_limits(t: Tally) -> Tally {
@@ -301,7 +300,7 @@ fn ends_and_counts(t: Tally) -> Tally {
     let t = breaks(t, c, 6, 512, 5120, 2560, 13);
     let t = breaks(t, c, 7, 512, 5120, 2560, LARGEST);
     let t = breaks(t, c, 8, 512, 5120, 0, 0);
-    judge(t, c, 9, is_broken(scenes::opened(511, 5120, TABLE_WORDS)))
+    broken(t, c, 9, scenes::opened(511, 5120, TABLE_WORDS))
 }
 
 pub fn all(t: Tally) -> Tally {

@@ -67,9 +67,10 @@ fn extends_small(t: Tally) -> Tally {
                      a small piece takes all the room behind it, 316 bytes\n\
                      a byte more than that room is refused 8\n\
                      with a live piece behind it one byte is refused 8\n\
-                     at a page's border one byte is refused 8\n\
                      a small piece may reach P - 1\n\
-                     a small piece may not reach P";
+                     a small piece may not reach P\n\
+                     a raw piece may reach P - 1\n\
+                     a raw piece may not reach P";
     let s = scenes::one();
     let t = leaves(t, c, 0, s, Call::Extend(0, 96, 415), two(s, 511, 1, 1, 4));
     let t = refuses(t, c, 1, s, Call::Extend(0, 96, 416), 8);
@@ -86,9 +87,47 @@ fn extends_small(t: Tally) -> Tally {
     let t = refuses(t, c, 4, next, Call::Extend(96, 100, 317), 8);
     let t = refuses(t, c, 5, next, Call::Extend(0, 96, 1), 8);
     let s = scenes::five();
-    let t = refuses(t, c, 6, s, Call::Extend(96, 416, 1), 8);
-    let t = done(t, c, 7, s, Call::Extend(2048, 10, 501), 2560);
-    refuses(t, c, 8, s, Call::Extend(2048, 10, 502), 8)
+    let t = done(t, c, 6, s, Call::Extend(2048, 10, 501), 2560);
+    let t = refuses(t, c, 7, s, Call::Extend(2048, 10, 502), 8);
+    let t = done(t, c, 8, s, Call::Extend(512, 100, 411), 2560);
+    refuses(t, c, 9, s, Call::Extend(512, 100, 412), 8)
+}
+
+// Two pieces fill a page of this type. The next page begins with a piece of 10 bytes and one of 20.
+fn two_pages(code: u64) -> Scene {
+    let s = scene::after(scenes::empty(), Call::Allocate(code, 96));
+    let s = scene::after(s, Call::Allocate(code, 416));
+    let s = scene::after(s, Call::Allocate(code, 10));
+    scene::after(s, Call::Allocate(code, 20))
+}
+
+// Without the piece of 10 bytes: these two, and behind the border a free entry of their type.
+fn free_behind_border(s: Scene, live: u64, free: u64) -> Scene {
+    let s = added(two(s, 96, live, 416, live), 10, free);
+    added(added(s, 20, live), 482, free)
+}
+
+fn extends_at_border(t: Tally) -> Tally {
+    let c: &[u8] = b"a released piece at a page's start stays metadata\n\
+                     a released piece at a page's start stays raw\n\
+                     at a page's border one byte is refused 8, with a free entry of its type behind the border\n\
+                     at a page's border one byte is refused 8, the same of raw data\n\
+                     at a page's border one byte is refused 8, with a live piece behind the border\n\
+                     a small piece that ends at E has no room: one byte is refused 8\n\
+                     a raw piece that ends at E has no room: one byte is refused 8";
+    let s = two_pages(METADATA);
+    let free = free_behind_border(s, 1, 4);
+    let t = leaves(t, c, 0, s, Call::Release(512, 10), free);
+    let raw = two_pages(RAW);
+    let raw_free = free_behind_border(raw, 2, 5);
+    let t = leaves(t, c, 1, raw, Call::Release(512, 10), raw_free);
+    let t = refuses(t, c, 2, free, Call::Extend(96, 416, 1), 8);
+    let t = refuses(t, c, 3, raw_free, Call::Extend(96, 416, 1), 8);
+    let t = refuses(t, c, 4, s, Call::Extend(96, 416, 1), 8);
+    let last = two(s, 96, 1, 416, 1);
+    let t = refuses(t, c, 5, last, Call::Extend(96, 416, 1), 8);
+    let last = two(s, 96, 2, 416, 2);
+    refuses(t, c, 6, last, Call::Extend(96, 416, 1), 8)
 }
 
 fn extends_named(t: Tally) -> Tally {
@@ -120,7 +159,9 @@ fn extends_large(t: Tally) -> Tally {
                      a large piece at E extended by 2^64 - 1 is refused 5\n\
                      with a part page behind it a large piece takes that page\n\
                      with a part page behind it a byte more is refused 8\n\
-                     with a part page behind it 2^64 - 1 is refused 8";
+                     with a part page behind it 2^64 - 1 is refused 8\n\
+                     with a live small piece behind it a large piece has no room: refused 8\n\
+                     with a free small entry behind it a large piece has no room: refused 8";
     let s = scenes::five();
     let t = done(t, c, 0, s, Call::Extend(1024, 700, 324), 2560);
     let t = refuses(t, c, 1, s, Call::Extend(1024, 700, 325), 8);
@@ -139,7 +180,11 @@ fn extends_large(t: Tally) -> Tally {
     let s = scene::after(scenes::empty(), Call::Allocate(RAW, 700));
     let t = leaves(t, c, 6, s, Call::Extend(0, 700, 324), one(s, 1024, 3));
     let t = refuses(t, c, 7, s, Call::Extend(0, 700, 325), 8);
-    refuses(t, c, 8, s, Call::Extend(0, 700, LARGEST), 8)
+    let t = refuses(t, c, 8, s, Call::Extend(0, 700, LARGEST), 8);
+    let s = added(two(s, 512, 3, 10, 1), 502, 4);
+    let t = refuses(t, c, 9, s, Call::Extend(0, 512, 1), 8);
+    let s = added(two(s, 512, 3, 10, 4), 502, 1);
+    refuses(t, c, 10, s, Call::Extend(0, 512, 1), 8)
 }
 
 fn shortens_named(t: Tally) -> Tally {
@@ -192,6 +237,7 @@ fn shortens(t: Tally) -> Tally {
 
 pub fn all(t: Tally) -> Tally {
     let t = part_pages(releases(t));
-    let t = extends_large(extends_named(extends_small(t)));
+    let t = extends_at_border(extends_small(t));
+    let t = extends_large(extends_named(t));
     shortens(shortens_named(t))
 }

@@ -9,6 +9,7 @@ mod opening;
 mod requests;
 mod scenes;
 mod thousand;
+mod unsound;
 
 use show::claim::Tally;
 use show::text::say_line;
@@ -25,6 +26,6 @@ fn main() {
     say_line(b"listing");
     let t = listing::all(t);
     say_line(b"damaged tables");
-    let t = damage::all(t);
+    let t = unsound::all(damage::all(t));
     t.report(b"edges");
 }

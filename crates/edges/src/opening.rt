@@ -6,6 +6,7 @@ ghost use Rattle.pieces.specs.Words.{entryWords};
 use pieces::ENTRY_WORDS;
 use show::answer;
 use show::answer::Answer;
+use show::case;
 use show::claim;
 use show::claim::Tally;
 use show::document::TABLE_WORDS;
@@ -169,6 +170,15 @@ fn lengths(t: Tally) -> Tally {
     refuses(t, c, 9, 512, 5120, 1025 * ENTRY_WORDS)
 }
 
+fn by_default(t: Tally) -> Tally {
+    let c: &[u8] = b"the default opening has P = 4096 and M = 2^62";
+    let opened = scene::open_default();
+    let found = opened.scene;
+    let given = scene::open(4096, LARGEST_LIMIT, scene::WORDS);
+    let expected = given.scene;
+    case::same(t, c, 0, expected, found)
+}
+
 pub fn all(t: Tally) -> Tally {
-    lengths(limits(pages(t)))
+    by_default(lengths(limits(pages(t))))
 }

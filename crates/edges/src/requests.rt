@@ -130,6 +130,20 @@ fn best_place(t: Tally) -> Tally {
     placed(t, c, 6, s, Call::Allocate(METADATA, 10), 2000, 5000)
 }
 
+fn large_places(t: Tally) -> Tally {
+    let c: &[u8] =
+        b"a large request goes to the start of a free large entry that starts at a border\n\
+                     a large request takes all of such an entry\n\
+                     a large request takes a misaligned free large entry from its first border to its end\n\
+                     a byte more has no room there, though the entry has more bytes, and goes to the end";
+    let s = scene::after(scenes::five(), Call::Release(1024, 700));
+    let t = placed(t, c, 0, s, Call::Allocate(RAW, 512), 1024, 2560);
+    let t = placed(t, c, 1, s, Call::Allocate(RAW, 1024), 1024, 2560);
+    let s = misaligned(512, 5120, 700, 1024);
+    let t = placed(t, c, 2, s, Call::Allocate(RAW, 1024), 1024, 2560);
+    placed(t, c, 3, s, Call::Allocate(RAW, 1025), 2560, 4096)
+}
+
 // The same five requests, with P = 512 and with P = 1,000.
 fn beside_512(t: Tally) -> Tally {
     let c: &[u8] =
@@ -169,6 +183,6 @@ fn borders_of_1000(t: Tally) -> Tally {
 
 pub fn all(t: Tally) -> Tally {
     let t = limits(codes_and_sizes(small_and_large(t)));
-    let t = best_place(limit_within_a_page(t));
+    let t = large_places(best_place(limit_within_a_page(t)));
     borders_of_1000(beside_512(t))
 }
