@@ -3,9 +3,10 @@
 --   closing-next, closing-none    what closes before a live piece, and before nothing
 --   end-behind-next, -none        the end, likewise
 --   sums                          what a sound table's entries leave of the numbers of 64 bits
+--   count-closing                 a plan puts in no more entries than a Few holds
 --   plan-filled, plan-ends        the table and the end, for any new pieces between the two live ones
---   planned-is                    the whole, of a plan whose new entries are these
---   planned-without, planned-with the plans, as the code makes them
+--   planned-for                   the whole: `planFor` is `Planned`
+--   plan-without, plan-with       the plans, as the code makes them
 --
 -- Assumes nothing.
 use Prim.Native.Nat.{ℕ, zero, suc, _+_, _-_, _≤_, _<_, _^_}
@@ -15,11 +16,11 @@ use native.Mathlib.Omega.{arith}
 use lib.ListN.{length, length-append}
 use borrow.Author.Tests.{lt-ltb, le-ltb}
 use Rattle.change.proofs.AroundLaws.{former-is, NextIs, next-is}
-use Rattle.change.specs.Change.{formerStep, formerOf, nextOf, endBehind, planOf, PlanFits, Planned}
+use Rattle.change.specs.Change.{formerStep, formerOf, nextOf, endBehind, planOf, between, planFor, PlanFits, Planned}
 use Rattle.change.specs.declared.around.Former.{Former}
 use Rattle.change.specs.declared.plan.Plan.{Plan}
-use Rattle.edit.proofs.FewLaws.{holding-more}
-use Rattle.edit.specs.Edit.{held, Holding}
+use Rattle.edit.proofs.FewLaws.{free-length, gap-length, with-append, count-more, holding-few}
+use Rattle.edit.specs.Edit.{gapPieces, mostPieces, noPieces, withPiece, withPieces, held, Holding}
 use Rattle.edit.specs.declared.few.Few.{Few}
 use Rattle.pages.proofs.Numbers.{split}
 use Rattle.pages.proofs.PageLaws.{page-pos}
@@ -72,10 +73,24 @@ unfolding lastEnd lives
 last-end-live a b starts-none some = absurd (some refl)
 last-end-live a b starts-live some = refl
 
--- ---- the new entries: ps, behind a piece of class k that ends at a, and what closes behind them before the entries ys
+-- ---- how many entries a plan puts in
 
-abbrev between : ℕ → Class → ℕ → List Piece → List Piece → List Piece
-between P k a ps ys = frontFrom P k a ps ++ closing P (lastClass k ps) (lastEnd a ps) ys
+closing-length : (P : ℕ) (k : Class) (a : ℕ) (es : List Piece) → length (closing P k a es) ≤ gapPieces
+unfolding closing
+closing-length P k a [] = omega (arith, free-length k a (up P a))
+closing-length P k a (y ∷ es) = gap-length P k a (y .address) (classOf (y .status))
+
+pub count-closing : (q r : Few) (P : ℕ) (k : Class) (a : ℕ) (es : List Piece) → r ≡ withPieces q (closing P k a es) → r .count ≤ q .count + gapPieces
+count-closing q r P k a es e = omega (arith, count-more q r (closing P k a es) e, closing-length P k a es)
+
+-- one new piece has a gap before it
+between-length : (P : ℕ) (k : Class) (a : ℕ) (ps es : List Piece) → length ps ≤ 1 → length (between P k a ps es) ≤ mostPieces
+unfolding frontFrom
+between-length P k a [] es one = omega (arith, closing-length P (lastClass k []) (lastEnd a []) es)
+between-length P k a (x ∷ []) es one =
+    let g = gap-length P k a (x .address) (classOf (x .status)) in
+    simp length-append (omega (arith, g, closing-length P (lastClass k (x ∷ [])) (lastEnd a (x ∷ [])) es))
+between-length P k a (x ∷ y ∷ ps) es one = absurd (omega arith)
 
 module _ {P E n i j : ℕ} {w : List ℕ} (h : PlanFits P E n i j w) where
   abbrev f : Former
@@ -167,27 +182,30 @@ module _ {P E n i j : ℕ} {w : List ℕ} (h : PlanFits P E n i j w) where
 
   -- ---- the whole
 
-  module _ (ps : List Piece) (q : Few) (g : Holding q (between P (f .class) (f .end) ps ys)) where
+  module _ (ps : List Piece) (one : length ps ≤ 1) where
+    abbrev q : Few
+    q = withPieces noPieces (between P (f .class) (f .end) ps ys)
+
+    holds : Holding q (between P (f .class) (f .end) ps ys)
+    holds = holding-few (between P (f .class) (f .end) ps ys) (between-length P (f .class) (f .end) ps ys one)
+
     filled : xs ++ (held q ++ ys) ≡ fill P (livesWith w n i j ps)
-    filled = rw (g .pieces) (plan-filled ps)
+    filled = rw (holds .pieces) (plan-filled ps)
 
     counted : f .from + q .count + (n - t) ≡ length (fill P (livesWith w n i j ps))
     counted =
-        let e = simp (length-append, length-entries, g .pieces) at (ap length filled) in
-        omega (arith, g .count, simp length-append at (g .count), e)
+        let e = simp (length-append, length-entries, holds .pieces) at (ap length filled) in
+        omega (arith, holds .count, simp length-append at (holds .count), e)
 
-    pub planned-is : Planned P n w (livesWith w n i j ps) (planOf P E n (f .from) t q (lastEnd (f .end) ps))
-    planned-is =
-        record { low = from-to; high = to-n; few = g .few; counted = refl; count = counted; ends = plan-ends ps; filled = filled }
+    pub planned-for : Planned P n w (livesWith w n i j ps) (planFor P E n i j w ps)
+    unfolding planFor
+    planned-for =
+        record { low = from-to; high = to-n; few = holds .few; counted = refl; count = counted; ends = plan-ends ps; filled = filled }
 
 -- ---- the plans, as the code makes them
 
 -- a plan of what was found is a plan of what is there
 module _ {P E n i j : ℕ} {w : List ℕ} (h : PlanFits P E n i j w) (fr : Former) (to : ℕ) (ef : fr ≡ formerOf w i) (et : to ≡ nextOf w j (n - j)) where
-  found-plan : (ps : List Piece) (q : Few) (r : Plan) → Holding q (between P (fr .class) (fr .end) ps (entries w to (n - to)))
-      → r ≡ planOf P E n (fr .from) to q (lastEnd (fr .end) ps) → Planned P n w (livesWith w n i j ps) r
-  found-plan ps q r g er = rw (er, ef, et) (planned-is h ps q (rw (ef, et) at g))
-
   pub found-sum : fr .end + P ≤ 2 ^ 64
   found-sum = omega (arith, ap (λ (v : Former). v .end) ef, former-sum h)
 
@@ -197,16 +215,19 @@ module _ {P E n i j : ℕ} {w : List ℕ} (h : PlanFits P E n i j w) (fr : Forme
   pub found-high : to ≤ n
   found-high = omega (arith, to-n h)
 
-  pub planned-without : (e q : Few) (r : Plan) → Holding e [] → Holding q (held e ++ closing P (fr .class) (fr .end) (entries w to (n - to)))
-      → r ≡ planOf P E n (fr .from) to q (fr .end) → Planned P n w (livesWith w n i j []) r
-  unfolding frontFrom lastClass lastEnd
-  planned-without e q r he hq er = found-plan [] q r (holding-more _ he hq) er
+  pub plan-without : (e q : Few) (r : Plan) → e ≡ noPieces → q ≡ withPieces e (closing P (fr .class) (fr .end) (entries w to (n - to)))
+      → r ≡ planOf P E n (fr .from) to q (fr .end) → r ≡ planFor P E n i j w []
+  unfolding planFor frontFrom lastClass lastEnd
+  plan-without e q r ee eq er = rw (← ef, ← et, ← ee, ← eq) er
 
-  pub planned-with : (x : Piece) (k : Class) (e g c q : Few) (r : Plan) → k ≡ classOf (x .status) → Holding e []
-      → Holding g (held e ++ gap P (fr .class) (fr .end) (x .address) k) → Holding c (held g ++ (x ∷ []))
-      → Holding q (held c ++ closing P k (behind x) (entries w to (n - to))) → r ≡ planOf P E n (fr .from) to q (behind x)
-      → Planned P n w (livesWith w n i j (x ∷ [])) r
-  unfolding frontFrom lastClass lastEnd
-  planned-with x k e g c q r ek he hg hc hq er =
-      let a = holding-more _ (holding-more _ (holding-more _ he hg) hc) hq in
-      found-plan (x ∷ []) q r (rw (← ek) a) er
+  pub plan-with : (x : Piece) (k : Class) (e g c q : Few) (r : Plan) → k ≡ classOf (x .status) → e ≡ noPieces
+      → g ≡ withPieces e (gap P (fr .class) (fr .end) (x .address) k) → c ≡ withPiece g x
+      → q ≡ withPieces c (closing P k (behind x) (entries w to (n - to))) → r ≡ planOf P E n (fr .from) to q (behind x)
+      → r ≡ planFor P E n i j w (x ∷ [])
+  unfolding planFor frontFrom lastClass lastEnd withPieces
+  plan-with x k e g c q r ek ee eg ec eq er =
+      let front : List Piece = gap P (fr .class) (fr .end) (x .address) k in
+      let close : List Piece = closing P k (behind x) (entries w to (n - to)) in
+      let all : withPieces noPieces ((front ++ (x ∷ [])) ++ close) ≡ q =
+      with-append noPieces (front ++ (x ∷ [])) close ∙ rw (with-append noPieces front (x ∷ []), ← ee, ← eg, ← ec, ← eq) in
+      rw (← ef, ← et, ← ek, all) er

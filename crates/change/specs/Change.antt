@@ -5,11 +5,14 @@
 --   endBehind P E a to n   where the file ends if the last piece before entry `to` of n ends at a: E, if live pieces follow
 --
 --   planOf P E n from to new a    the plan to put these new entries, the last piece of which ends at a, between `from` and `to`
+--   between P k a ps es    the pieces ps with what is free around them, behind a piece of class k that ends at a and before the entries es
+--   planFor P E n i j w ps        the plan to put the live pieces ps in place of those among the entries from i up to j of the words w: the
+--                          entries between the former and the next live piece give way to those that stand `between` the two
 --   PlanFits P E n i j w   what a plan asks: the entries of w are those of a sound table, and i up to j a part of them
 --   Planned P n w ps r     what a plan r says: with the entries from r.from up to r.to replaced by r.new, the entries are those that the
 --                          live pieces ps determine, and so are the end and the count
 --
--- Assumes nothing.
+-- Assumes nothing. That `planFor` is `Planned` is said by `planned-for` of proofs/PlanLaws.antt.
 use mathlib.Core.Path.{_≡_}
 use mathlib.Core.Bool.{cond}
 use mathlib.Core.List.{List, _++_}
@@ -17,16 +20,18 @@ use Prim.Native.Nat.{ℕ, zero, suc, _+_, _-_, _*_, _≤_, _<_, _^_}
 use lib.Dec.{ltb}
 use lib.ListN.{length}
 use Rattle.pages.specs.Pages.{PageSize, Border, up}
+use Rattle.pieces.specs.declared.Class.{Class}
 use Rattle.pieces.specs.declared.Class.the-variants.{Large}
 use Rattle.pieces.specs.declared.Status.{Status}
 use Rattle.pieces.specs.declared.Status.the-variants.{Live, Free}
 use Rattle.pieces.specs.declared.Piece.{Piece}
 use Rattle.pieces.specs.Pieces.{behind, freeb}
 use Rattle.pieces.specs.Words.{entryWords, entryAt, entries}
-use Rattle.table.specs.Fill.{fill, endOf}
+use Rattle.table.specs.Fill.{fill, lastEnd, endOf}
 use Rattle.table.specs.Sound.{SoundEntries}
-use Rattle.edit.specs.Edit.{mostPieces, held}
+use Rattle.edit.specs.Edit.{mostPieces, noPieces, withPieces, held}
 use Rattle.edit.specs.declared.few.Few.{Few}
+use Rattle.rules.specs.Between.{frontFrom, lastClass, closing}
 use Rattle.change.specs.declared.around.Former.{Former}
 use Rattle.change.specs.declared.plan.Plan.{Plan}
 
@@ -52,6 +57,16 @@ endBehind P E a to n = cond (ltb to n) E (up P a)
 abbrev pub planOf : ℕ → ℕ → ℕ → ℕ → ℕ → Few → ℕ → Plan
 planOf P E n from to new a =
     record { from = from; to = to; new = new; end = endBehind P E a to n; count = from + new .count + (n - to) }
+
+abbrev pub between : ℕ → Class → ℕ → List Piece → List Piece → List Piece
+between P k a ps es = frontFrom P k a ps ++ closing P (lastClass k ps) (lastEnd a ps) es
+
+unfoldable pub planFor : ℕ → ℕ → ℕ → ℕ → ℕ → List ℕ → List Piece → Plan
+planFor P E n i j w ps =
+    let f = formerOf w i in
+    let to = nextOf w j (n - j) in
+    let new = withPieces noPieces (between P (f .class) (f .end) ps (entries w to (n - to))) in
+    planOf P E n (f .from) to new (lastEnd (f .end) ps)
 
 pub record PlanFits (P E n i j : ℕ) (w : List ℕ) : Type 0 where
   pub page : PageSize P

@@ -1,13 +1,13 @@
 // A plan for a change.
 ghost use mathlib.Core.Path.{_≡_};
-ghost use mathlib.Core.List.{_∷_, [], _++_};
+ghost use mathlib.Core.List.{_∷_, []};
 ghost use Prim.Native.Nat.{_+_, _-_, _*_, _≤_, _<_, _^_};
 ghost use lib.ListN.{length};
 ghost use Rattle.pieces.specs.Pieces.{behind};
 ghost use Rattle.pieces.specs.Words.{entryWords, entries};
-ghost use Rattle.edit.specs.Edit.{gapPieces, mostPieces, held, Holding};
-ghost use Rattle.rules.specs.Between.{closing, livesWith};
-ghost use Rattle.change.specs.Change.{endBehind, planOf, PlanFits, Planned};
+ghost use Rattle.edit.specs.Edit.{gapPieces, mostPieces, withPieces};
+ghost use Rattle.rules.specs.Between.{closing};
+ghost use Rattle.change.specs.Change.{endBehind, planOf, planFor, PlanFits};
 use crate::around;
 use edit::few::Few;
 use pieces::Piece;
@@ -24,7 +24,7 @@ pub struct Plan {
 // The free entries behind a piece of class k that ends at a, up to entry `to` or to the page's end.
 fn close(few: Few, p: u64, k: pieces::Class, a: u64, to: usize, n: usize, table: &[u64]) -> Few
     requires { ⌜ (((0 < p) × (a + p ≤ 2 ^ 64)) × (few .count + gapPieces ≤ mostPieces)) × (n * entryWords ≤ length (now table)) ⌝ }
-    ensures { λ r. ⌜ Holding r (held few ++ closing p k a (entries (now (table .entry)) to (n - to))) ⌝ }
+    ensures { λ r. ⌜ r ≡ withPieces few (closing p k a (entries (now (table .entry)) to (n - to))) ⌝ }
 {
     if n <= to {
         return few.with_tail(p, k, a);
@@ -63,7 +63,7 @@ fn planned(p: u64, end: u64, n: usize, from: usize, to: usize, new: Few, a: u64)
 // Without the live pieces among the entries from i up to j.
 pub fn without(p: u64, end: u64, n: usize, i: usize, j: usize, table: &[u64]) -> Plan
     requires { ⌜ PlanFits p end n i j (now table) ⌝ }
-    ensures { λ r. ⌜ Planned p n (now (table .entry)) (livesWith (now (table .entry)) n i j []) r ⌝ }
+    ensures { λ r. ⌜ r ≡ planFor p end n i j (now (table .entry)) [] ⌝ }
 {
     let former = around::live_before(i, table);
     let class = former.class;
@@ -75,7 +75,7 @@ pub fn without(p: u64, end: u64, n: usize, i: usize, j: usize, table: &[u64]) ->
 // With this live piece in place of those among the entries from i up to j.
 pub fn with(p: u64, end: u64, n: usize, i: usize, j: usize, piece: Piece, table: &[u64]) -> Plan
     requires { ⌜ PlanFits p end n i j (now table) × (behind piece + p ≤ 2 ^ 64) ⌝ }
-    ensures { λ r. ⌜ Planned p n (now (table .entry)) (livesWith (now (table .entry)) n i j (piece ∷ [])) r ⌝ }
+    ensures { λ r. ⌜ r ≡ planFor p end n i j (now (table .entry)) (piece ∷ []) ⌝ }
 {
     let former = around::live_before(i, table);
     let before = former.class;

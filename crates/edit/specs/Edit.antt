@@ -2,6 +2,10 @@
 --
 --   gapPieces               the most entries of a gap
 --   mostPieces              the most pieces that one change puts in: two gaps, and a live piece between them
+--   noPiece                 what stands in a place of a Few that was never given a piece
+--   noPieces                the Few that holds none
+--   withPiece q x           the Few q with the piece x behind those that it holds
+--   withPieces q xs         so with the pieces xs, one after the other
 --   held q                  the pieces of a Few
 --   Holding q ps            q holds the pieces ps, and its count is theirs
 --
@@ -24,10 +28,13 @@
 --
 -- Assumes nothing.
 use mathlib.Core.Path.{_≡_}
-use mathlib.Core.List.{List, _++_}
+use mathlib.Core.List.{List, [], _∷_, _++_}
 use Prim.Native.Nat.{ℕ, _+_, _-_, _*_, _≤_}
-use lib.ListN.{length, take, drop, replicate}
+use lib.ListN.{length, take, drop, replicate, set}
+use Rattle.pieces.specs.declared.Class.the-variants.{Large}
+use Rattle.pieces.specs.declared.Status.the-variants.{Live}
 use Rattle.pieces.specs.declared.Piece.{Piece}
+use Rattle.pieces.specs.Pieces.{piece}
 use Rattle.pieces.specs.Words.{entryWords, words, table, Zeros}
 use Rattle.edit.specs.declared.few.Few.{Few}
 
@@ -38,6 +45,19 @@ gapPieces = 3
 
 abbrev pub mostPieces : ℕ
 mostPieces = 7
+
+abbrev pub noPiece : Piece
+noPiece = piece 0 0 (Live Large)
+
+unfoldable pub noPieces : Few
+noPieces = record { list = replicate mostPieces noPiece; count = 0 }
+
+unfoldable pub withPiece : Few → Piece → Few
+withPiece q x = record { list = set (q .list) (q .count) x; count = q .count + 1 }
+
+unfoldable pub withPieces : Few → List Piece → Few
+withPieces q [] = q
+withPieces q (x ∷ xs) = withPieces (withPiece q x) xs
 
 unfoldable pub held : Few → List Piece
 held q = take (q .count) (q .list)

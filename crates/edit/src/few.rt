@@ -1,9 +1,9 @@
 // A few pieces by value: those that take the place of others in a table. Between two neighbouring live pieces stand at most three free
 // entries, so two such gaps and a live piece between them are the most that one change puts in.
-ghost use mathlib.Core.List.{[], _∷_, _++_};
+ghost use mathlib.Core.Path.{_≡_};
 ghost use Prim.Native.Nat.{_+_, _≤_, _<_, _^_};
 ghost use Rattle.table.specs.Fill.{free, gap, tail};
-ghost use Rattle.edit.specs.Edit.{mostPieces, gapPieces, held, Holding};
+ghost use Rattle.edit.specs.Edit.{gapPieces, mostPieces, noPieces, withPiece, withPieces};
 use crate::gap::hi;
 use crate::gap::lo;
 use pages::round_up;
@@ -21,7 +21,7 @@ pub struct Few {
 impl Few {
     // No piece.
     pub fn none() -> Self
-        ensures { λ r. ⌜ Holding r [] ⌝ }
+        ensures { λ r. ⌜ r ≡ noPieces ⌝ }
     {
         let blank = Piece {
             address: 0,
@@ -37,7 +37,7 @@ impl Few {
     // One piece more.
     pub fn with(self, piece: Piece) -> Self
         requires { ⌜ self .count < mostPieces ⌝ }
-        ensures { λ r. ⌜ Holding r (held self ++ (piece ∷ [])) ⌝ }
+        ensures { λ r. ⌜ r ≡ withPiece self piece ⌝ }
     {
         let mut next = self;
         let at = next.count;
@@ -49,7 +49,7 @@ impl Few {
     // The free entry from a to b, if there is a byte between them.
     pub fn with_free(self, class: Class, a: u64, b: u64) -> Self
         requires { ⌜ self .count < mostPieces ⌝ }
-        ensures { λ r. ⌜ Holding r (held self ++ free class a b) ⌝ }
+        ensures { λ r. ⌜ r ≡ withPieces self (free class a b) ⌝ }
     {
         if a < b {
             return self.with(Piece {
@@ -64,7 +64,7 @@ impl Few {
     // The free entries between a live piece of class k that ends at a and one of class m that starts at b.
     pub fn with_gap(self, p: u64, k: Class, a: u64, b: u64, m: Class) -> Self
         requires { ⌜ ((0 < p) × (a + p ≤ 2 ^ 64)) × (self .count + gapPieces ≤ mostPieces) ⌝ }
-        ensures { λ r. ⌜ Holding r (held self ++ gap p k a b m) ⌝ }
+        ensures { λ r. ⌜ r ≡ withPieces self (gap p k a b m) ⌝ }
     {
         let l = lo(p, k, a, b);
         let h = hi(p, l, b, m);
@@ -76,7 +76,7 @@ impl Few {
     // The free entry behind the last live piece, of class k, that ends at a: to the page's end.
     pub fn with_tail(self, p: u64, k: Class, a: u64) -> Self
         requires { ⌜ ((0 < p) × (a + p ≤ 2 ^ 64)) × (self .count < mostPieces) ⌝ }
-        ensures { λ r. ⌜ Holding r (held self ++ tail p k a) ⌝ }
+        ensures { λ r. ⌜ r ≡ withPieces self (tail p k a) ⌝ }
     {
         self.with_free(k, a, round_up(p, a))
     }

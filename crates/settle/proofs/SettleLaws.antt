@@ -2,7 +2,8 @@
 --
 --   settled-full, settled-room    the two outcomes of `settledTable`
 --   spliced-plan, carried         a splice as planned leaves the table of the planned live pieces
---   plan-fits                     a sound table lets a plan be made
+--   plan-fits, plan-right         a sound table lets a plan be made, and it is one for the new live pieces
+--   carry-fits                    which can be carried out
 --
 -- Assumes nothing.
 use Prim.Native.Nat.{ℕ, _*_, _≤_, _<_}
@@ -11,14 +12,16 @@ use mathlib.Core.Path.{_≡_, refl, sym, ap, _∙_, subst}
 use native.Mathlib.Omega.{arith}
 use lib.ListN.{length, take, drop, length-append}
 use borrow.Author.Tests.{lt-ltb, le-ltb}
-use Rattle.change.specs.Change.{PlanFits, Planned}
+use Rattle.change.proofs.PlanLaws.{planned-for}
+use Rattle.change.specs.Change.{planFor, PlanFits, Planned}
 use Rattle.change.specs.declared.plan.Plan.{Plan}
 use Rattle.edit.proofs.EditLaws.{splice-replaces}
 use Rattle.edit.specs.Edit.{held, Holding, Spliced, TableOf}
 use Rattle.pieces.proofs.WordLaws.{length-entries, take-entries, drop-entries}
 use Rattle.pieces.specs.Words.{entryWords, entries, table}
 use Rattle.pieces.specs.declared.Piece.{Piece}
-use Rattle.settle.specs.Settle.{settledTable, settleSaid, SettleFits}
+use Rattle.rules.specs.Between.{livesWith}
+use Rattle.settle.specs.Settle.{settledTable, settleSaid, SettleFits, CarryFits}
 use Rattle.settle.specs.declared.Settling.the-variants.{Done, TableFull}
 use Rattle.table.proofs.Theorems.{count-fits, sound-table}
 use Rattle.table.specs.Fill.{fill, endOf}
@@ -71,6 +74,25 @@ plan-fits f =
       rules = s .rules;
       low = f .low;
       high = f .high;
+    }
+
+-- the plan that is made is one for the new live pieces
+pub plan-right : {P E n i j : ℕ} {w : List ℕ} → SettleFits P E n i j w → (ps : List Piece) → length ps ≤ 1 → (plan : Plan)
+    → plan ≡ planFor P E n i j w ps → Planned P n w (livesWith w n i j ps) plan
+plan-right f ps one plan is = rw is (planned-for (plan-fits f) ps one)
+
+-- and can be carried out
+pub carry-fits : {P E n i j : ℕ} {w : List ℕ} {ps : List Piece} {plan : Plan} → SettleFits P E n i j w → Planned P n w ps plan → CarryFits n w plan
+carry-fits {P = P} {E = E} f p =
+    record {
+      page = P;
+      limit = f .limit;
+      end = E;
+      sound = f .sound;
+      low = p .low;
+      high = p .high;
+      few = p .few;
+      counted = p .counted;
     }
 
 -- ---- the whole change

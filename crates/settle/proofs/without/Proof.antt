@@ -1,7 +1,8 @@
 -- `settle::without` meets its contract: the plan is one for the live pieces without those of the entries.
 -- Assumes nothing.
+use native.Mathlib.Omega.{arith}
 use borrow.Author.Needs.{needs}
-use Rattle.settle.proofs.SettleLaws.{plan-fits}
+use Rattle.settle.proofs.SettleLaws.{plan-fits, plan-right, carry-fits}
 use Rattle.settle.proofs.without.Statement.{statement}
 use Rattle.settle.proofs.without.Tie as tie
 
@@ -9,13 +10,17 @@ without-requires : tie.Need-without-requires
 without-requires c κs = plan-fits (c .before .before .pre)
 
 carry-out-requires : tie.Need-carry-out-requires
-carry-out-requires c κs = search needs
+carry-out-requires c κs =
+    let h = c .before .before .before .before .pre in
+    carry-fits h (plan-right h _ (omega arith) _ (c .before .without .ensures))
 
 same-length : tie.Need-same-length
 same-length c = search needs
 
 returns : tie.Need-returns
-returns c = c .before .before .carry-out .ensures _ _ (c .before .before .before .before .without .ensures)
+returns c =
+    let h = c .before .before .before .before .before .before .before .pre in
+    c .before .before .carry-out .ensures _ _ (plan-right h _ (omega arith) _ (c .before .before .before .before .without .ensures))
 
 pub without-spec : {M : Type 1} → statement M
 without-spec = tie.close (tie.spec without-requires carry-out-requires same-length returns)

@@ -1,9 +1,9 @@
--- `change::plan::with` meets its contract: the gap, the piece and what closes behind it are what the splice law asks for one new piece.
+-- `change::plan::with` meets its contract: the gap, the piece and what closes behind it are all that stands between the two live pieces.
 -- Assumes nothing.
 use native.Mathlib.Omega.{arith}
 use borrow.Author.Needs.{needs}
-use Rattle.change.proofs.PlanLaws.{plan-ends-fit, found-sum, found-low, found-high, planned-with}
-use Rattle.edit.proofs.FewLaws.{count-gap, count-more}
+use Rattle.change.proofs.PlanLaws.{plan-ends-fit, count-closing, found-sum, found-low, found-high, plan-with}
+use Rattle.edit.proofs.FewLaws.{count-none, count-one, count-gap}
 use Rattle.pages.proofs.PageLaws.{page-pos}
 use Rattle.change.proofs.plan.with.Statement.{statement}
 use Rattle.change.proofs.plan.with.Tie as tie
@@ -30,18 +30,17 @@ with-gap-requires c κs =
     let h = c .before .before .before .before .before .before .pre .0 in
     let former = c .before .before .before .before .live-before .ensures in
     let next = c .before .before .before .live-from .ensures in
-    ((page-pos (h .page), found-sum h _ _ former next), omega (arith, c .none .ensures .count))
+    ((page-pos (h .page), found-sum h _ _ former next), omega (arith, count-none (c .none .ensures)))
 
 with-requires : tie.Need-with-requires
-with-requires c κs = omega (arith, c .before .none .ensures .count, count-gap _ _ _ _ _ _ _ (c .with-gap .ensures))
+with-requires c κs = omega (arith, count-none (c .before .none .ensures), count-gap _ _ _ _ _ _ _ (c .with-gap .ensures))
 
 close-requires : tie.Need-close-requires
 close-requires c κs =
     let h = c .before .before .before .before .before .before .before .before .pre .0 in
     let sum = c .before .before .before .before .before .before .before .before .pre .1 in
     let gap = count-gap _ _ _ _ _ _ _ (c .before .with-gap .ensures) in
-    let piece = count-more _ _ _ (c .with .ensures) in
-    (((page-pos (h .page), sum), omega (arith, c .before .before .none .ensures .count, gap, piece)), h .room)
+    (((page-pos (h .page), sum), omega (arith, count-none (c .before .before .none .ensures), gap, count-one _ _ _ (c .with .ensures))), h .room)
 
 planned-requires : tie.Need-planned-requires
 planned-requires c κs =
@@ -49,9 +48,13 @@ planned-requires c κs =
     let sum = c .before .before .before .before .before .before .before .before .before .pre .1 in
     let former = c .before .before .before .before .before .before .before .live-before .ensures in
     let next = c .before .before .before .before .before .before .live-from .ensures in
+    let none = count-none (c .before .before .before .none .ensures) in
+    let gap = count-gap _ _ _ _ _ _ _ (c .before .before .with-gap .ensures) in
+    let piece = count-one _ _ _ (c .before .with .ensures) in
+    let close = count-closing _ _ _ _ _ _ (c .close .ensures) in
     let low = found-low h _ _ former next in
     let high = found-high h _ _ former next in
-    (((page-pos (h .page), sum), (low, high)), (h .few, c .close .ensures .few))
+    (((page-pos (h .page), sum), (low, high)), (h .few, omega (arith, none, gap, piece, close)))
 
 returns : tie.Need-returns
 returns c =
@@ -61,8 +64,7 @@ returns c =
     let class = c .before .before .before .before .before .before .class-of .ensures in
     let none = c .before .before .before .before .none .ensures in
     let gap = c .before .before .before .with-gap .ensures in
-    let piece = c .before .before .with .ensures in
-    planned-with h _ _ former next _ _ _ _ _ _ _ class none gap piece (c .before .close .ensures) (c .planned .ensures)
+    plan-with h _ _ former next _ _ _ _ _ _ _ class none gap (c .before .before .with .ensures) (c .before .close .ensures) (c .planned .ensures)
 
 pub with-spec : {M : Type 1} → statement M
 with-spec =

@@ -1,8 +1,9 @@
--- `change::plan::without` meets its contract: what closes behind the former live piece is what the splice law asks for no new piece.
+-- `change::plan::without` meets its contract: what closes behind the former live piece is all that stands between it and the next one.
 -- Assumes nothing.
 use native.Mathlib.Omega.{arith}
 use borrow.Author.Needs.{needs}
-use Rattle.change.proofs.PlanLaws.{plan-ends-fit, found-sum, found-low, found-high, planned-without}
+use Rattle.change.proofs.PlanLaws.{plan-ends-fit, count-closing, found-sum, found-low, found-high, plan-without}
+use Rattle.edit.proofs.FewLaws.{count-none}
 use Rattle.pages.proofs.PageLaws.{page-pos}
 use Rattle.change.proofs.plan.without.Statement.{statement}
 use Rattle.change.proofs.plan.without.Tie as tie
@@ -23,7 +24,7 @@ close-requires c κs =
     let h = c .before .before .before .before .pre in
     let former = c .before .before .live-before .ensures in
     let next = c .before .live-from .ensures in
-    (((page-pos (h .page), found-sum h _ _ former next), omega (arith, c .none .ensures .count)), h .room)
+    (((page-pos (h .page), found-sum h _ _ former next), omega (arith, count-none (c .none .ensures))), h .room)
 
 planned-requires : tie.Need-planned-requires
 planned-requires c κs =
@@ -32,15 +33,16 @@ planned-requires c κs =
     let next = c .before .before .live-from .ensures in
     let low = found-low h _ _ former next in
     let high = found-high h _ _ former next in
-    (((page-pos (h .page), found-sum h _ _ former next), (low, high)), (h .few, c .close .ensures .few))
+    let none = count-none (c .before .none .ensures) in
+    let close = count-closing _ _ _ _ _ _ (c .close .ensures) in
+    (((page-pos (h .page), found-sum h _ _ former next), (low, high)), (h .few, omega (arith, none, close)))
 
 returns : tie.Need-returns
 returns c =
     let h = c .before .before .before .before .before .before .pre in
     let former = c .before .before .before .before .live-before .ensures in
     let next = c .before .before .before .live-from .ensures in
-    let none = c .before .before .none .ensures in
-    planned-without h _ _ former next _ _ _ none (c .before .close .ensures) (c .planned .ensures)
+    plan-without h _ _ former next _ _ _ (c .before .before .none .ensures) (c .before .close .ensures) (c .planned .ensures)
 
 pub without-spec : {M : Type 1} → statement M
 without-spec =

@@ -1,11 +1,13 @@
--- `edit::few::Few::none` meets its contract: of a list of any pieces the first 0 are none.
+-- `edit::few::Few::none` meets its contract: it is the definition.
 -- Assumes nothing.
-use Rattle.edit.proofs.FewLaws.{holding-none}
+use mathlib.Core.Path.{refl}
+use Rattle.edit.specs.Edit.{noPieces}
 use Rattle.edit.proofs.few.Few.none.Statement.{statement}
 use Rattle.edit.proofs.few.Few.none.Tie as tie
 
 returns : tie.Need-returns
-returns c = holding-none _
+unfolding noPieces
+returns c = refl
 
 pub none-spec : {M : Type 1} → statement M
 none-spec = tie.close (tie.spec returns)

@@ -1,11 +1,8 @@
--- `edit::few::Few::with` meets its contract: a store right behind the pieces held, and a count of one more, append the piece.
+-- `edit::few::Few::with` meets its contract: a store right behind the pieces held, and a count of one more, are the definition.
 -- Assumes nothing.
-use mathlib.Core.Path.{_≡_}
-use lib.ListN.{length}
+use mathlib.Core.Path.{refl}
 use borrow.Author.Needs.{needs}
-use Rattle.edit.proofs.FewLaws.{holding-with}
-use Rattle.edit.proofs.SliceLaws.{length-mapped}
-use Rattle.edit.specs.Edit.{mostPieces}
+use Rattle.edit.specs.Edit.{withPiece}
 use Rattle.edit.proofs.few.Few.with.Statement.{statement}
 use Rattle.edit.proofs.few.Few.with.Tie as tie
 
@@ -19,9 +16,8 @@ add-next : tie.Need-add-next
 add-next c = search needs
 
 returns : tie.Need-returns
-returns c =
-    let all : length (c .args .self .list) ≡ mostPieces = search (needs, length-mapped) in
-    holding-with _ _ all (c .pre)
+unfolding withPiece
+returns c = refl
 
 pub with-spec : {M : Type 1} → statement M
 with-spec = tie.close (tie.spec mul-piece element-set-from-piece add-next returns)

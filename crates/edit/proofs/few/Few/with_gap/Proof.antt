@@ -2,7 +2,7 @@
 -- Assumes nothing.
 use native.Mathlib.Omega.{arith}
 use borrow.Author.Needs.{needs}
-use Rattle.edit.proofs.FewLaws.{holding-gap, count-free}
+use Rattle.edit.proofs.FewLaws.{with-gap, count-free}
 use Rattle.edit.proofs.few.Few.with_gap.Statement.{statement}
 use Rattle.edit.proofs.few.Few.with_gap.Tie as tie
 
@@ -26,7 +26,7 @@ returns : tie.Need-returns
 returns c =
     let l = c .before .before .before .before .lo .ensures in
     let h = c .before .before .before .hi .ensures in
-    holding-gap _ _ _ _ _ _ _ _ _ _ _ l h (c .before .before .with-free .ensures) (c .before .with-free2 .ensures) (c .with-free3 .ensures)
+    with-gap _ _ _ _ _ _ _ _ _ _ _ l h (c .before .before .with-free .ensures) (c .before .with-free2 .ensures) (c .with-free3 .ensures)
 
 pub with-gap-spec : {M : Type 1} → statement M
 with-gap-spec =
