@@ -130,3 +130,17 @@ few-places n k h f =
           let m : 10 ^ 20 ≤ 10 ^ (k - 1) = pow-le-pow-right {n = 10} (omega arith) {i = 20} {j = k - 1} (omega arith) in
           absurd (omega (arith, f .2 (omega arith)))
     ]
+
+-- and no two counts of digits are the fewest
+fewest-le : (n j k : ℕ) → Fewest 10 1 n j → Fewest 10 1 n k → j ≤ k
+fewest-le n j k f g =
+    elim (decLe j k) [
+      | yes l ↦ l
+      | no h ↦
+          let l : k < j = lt-of-not-le h in
+          let m : 10 ^ k ≤ 10 ^ (j - 1) = pow-le-pow-right {n = 10} (omega arith) {i = k} {j = j - 1} (omega arith) in
+          absurd (omega (arith, f .2 (omega (arith, g .0)), g .1))
+    ]
+
+pub fewest-unique : (n j k : ℕ) → Fewest 10 1 n j → Fewest 10 1 n k → j ≡ k
+fewest-unique n j k f g = omega (arith, fewest-le n j k f g, fewest-le n k j g f)

@@ -4,7 +4,9 @@
 --   numberBytes             the most digits that a number has
 --   NumberLaid d at n r e   so was the number n, in as few decimal digits as hold it
 --
--- Assumes nothing.
+--   OneLaid                 a number is laid in one way alone: any two results of NumberLaid are one place and one buffer
+--
+-- Assumes nothing. OneLaid is proved in proofs/LaidLaws.antt.
 use mathlib.Core.Path.{_≡_}
 use mathlib.Core.List.{List}
 use Prim.Native.Nat.{ℕ, _+_, _≤_}
@@ -24,3 +26,6 @@ pub record NumberLaid (d : List ℕ) (at n r : ℕ) (e : List ℕ) : Type 0 wher
   pub fewest : Fewest 10 1 n places
   pub few : r ≤ at + numberBytes
   pub laid : Laid d at (digits 10 places n) r e
+
+abbrev pub OneLaid : Type 0
+OneLaid = (d : List ℕ) (at n r s : ℕ) (e f : List ℕ) → NumberLaid d at n r e → NumberLaid d at n s f → (r ≡ s) × (e ≡ f)
