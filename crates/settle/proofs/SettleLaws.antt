@@ -32,12 +32,12 @@ use Rattle.table.specs.Sound.{capacity, Sound}
 module _ (P : ℕ) (w : List ℕ) (ps : List Piece) where
   pub settled-full : capacity (length w) < length (fill P ps) → settledTable P w ps ≡ settleSaid TableFull w
   unfolding settledTable
-  settled-full h = rw (lt-ltb (capacity (length w)) (length (fill P ps)) h)
+  settled-full h = rw (lt-ltb (capacity (length w)) (length (fill P ps)) h) refl
 
   pub settled-room : length (fill P ps) ≤ capacity (length w)
       → settledTable P w ps ≡ settleSaid (Done (endOf P ps) (length (fill P ps))) (table (length w) (fill P ps))
   unfolding settledTable
-  settled-room h = rw (le-ltb (capacity (length w)) (length (fill P ps)) h)
+  settled-room h = rw (le-ltb (capacity (length w)) (length (fill P ps)) h) refl
 
 -- ---- the splice of a plan
 
@@ -62,8 +62,9 @@ spliced-plan {n = n} {Q = Q} {w = w} {ps = ps} {plan = plan} {r = r} {v = v} s p
 
 -- ---- a sound table lets a plan be made
 
-pub plan-fits : {P E n i j : ℕ} {w : List ℕ} → SettleFits P E n i j w → PlanFits P E n i j w
-plan-fits f =
+-- for any part of its entries
+pub plan-fits : {P E n i j k l : ℕ} {w : List ℕ} → SettleFits P E n i j w → k ≤ l → l ≤ n → PlanFits P E n k l w
+plan-fits f low high =
     let s = f .sound in
     record {
       page = s .ranges .page;
@@ -72,14 +73,14 @@ plan-fits f =
       few = omega (arith, count-fits (s .ranges), s .ranges .slice .largest);
       room = count-fits (s .ranges);
       rules = s .rules;
-      low = f .low;
-      high = f .high;
+      low = low;
+      high = high;
     }
 
 -- the plan that is made is one for the new live pieces
 pub plan-right : {P E n i j : ℕ} {w : List ℕ} → SettleFits P E n i j w → (ps : List Piece) → length ps ≤ 1 → (plan : Plan)
     → plan ≡ planFor P E n i j w ps → Planned P n w (livesWith w n i j ps) plan
-plan-right f ps one plan is = rw is (planned-for (plan-fits f) ps one)
+plan-right f ps one plan is = rw is (planned-for (plan-fits f (f .low) (f .high)) ps one)
 
 -- and can be carried out
 pub carry-fits : {P E n i j : ℕ} {w : List ℕ} {ps : List Piece} {plan : Plan} → SettleFits P E n i j w → Planned P n w ps plan → CarryFits n w plan

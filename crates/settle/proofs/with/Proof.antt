@@ -1,5 +1,6 @@
 -- `settle::with` meets its contract: the plan is one for the live pieces with the new one.
 -- Assumes nothing.
+use mathlib.Core.List.{[], _∷_}
 use native.Mathlib.Omega.{arith}
 use borrow.Author.Needs.{needs}
 use Rattle.settle.proofs.SettleLaws.{plan-fits, plan-right, carry-fits}
@@ -7,12 +8,13 @@ use Rattle.settle.proofs.with.Statement.{statement}
 use Rattle.settle.proofs.with.Tie as tie
 
 with-requires : tie.Need-with-requires
-with-requires c κs = let h = c .before .before .pre in (plan-fits (h .0), h .1)
+with-requires c κs = let h = c .before .before .pre in (plan-fits (h .0) (omega (arith, h .0 .low)) (omega (arith, h .0 .low, h .0 .high)), h .1)
 
 carry-out-requires : tie.Need-carry-out-requires
 carry-out-requires c κs =
     let h = c .before .before .before .before .pre .0 in
-    carry-fits h (plan-right h _ (omega arith) _ (c .before .with .ensures))
+    let piece = c .before .before .before .before .args .piece in
+    carry-fits h (plan-right h (piece ∷ []) (omega arith) _ (c .before .with .ensures))
 
 same-length : tie.Need-same-length
 same-length c = search needs
@@ -20,7 +22,8 @@ same-length c = search needs
 returns : tie.Need-returns
 returns c =
     let h = c .before .before .before .before .before .before .before .pre .0 in
-    c .before .before .carry-out .ensures _ _ (plan-right h _ (omega arith) _ (c .before .before .before .before .with .ensures))
+    let piece = c .before .before .before .before .before .before .before .args .piece in
+    c .before .before .carry-out .ensures _ _ (plan-right h (piece ∷ []) (omega arith) _ (c .before .before .before .before .with .ensures))
 
 pub with-spec : {M : Type 1} → statement M
 with-spec = tie.close (tie.spec with-requires carry-out-requires same-length returns)

@@ -1,6 +1,6 @@
 -- `sound::walk::cut_holds` meets its contract: each return is the test after the answers that led to it.
 -- Assumes nothing.
-use mathlib.Core.Path.{sym, _∙_}
+use mathlib.Core.Path.{refl, sym, _∙_}
 use borrow.Author.Needs.{needs}
 use Rattle.table.specs.Local.{cutb}
 use Rattle.sound.proofs.walk.cut_holds.Statement.{statement}
@@ -11,7 +11,7 @@ is-large-free-requires c κs = search needs
 
 returns : tie.Need-returns
 unfolding cutb
-returns c = rw (c .before .before .if1 .taken, sym (c .before .is-large-free .ensures) ∙ c .if2 .taken)
+returns c = rw (c .before .before .if1 .taken, sym (c .before .is-large-free .ensures) ∙ c .if2 .taken) refl
 
 returns-2 : tie.Need-returns-2
 unfolding cutb
