@@ -7,7 +7,7 @@
 use Prim.Native.Nat.{ℕ, _+_, _*_}
 use mathlib.Core.Bool.{true, false}
 use mathlib.Core.List.{List, [], append-nil}
-use mathlib.Core.Path.{_≡_, refl}
+use mathlib.Core.Path.{_≡_, refl, _∙_}
 use native.Mathlib.Nat.{le-refl}
 use native.Mathlib.Omega.{arith}
 use lib.ListN.{length, replicate, drop, length-replicate, getD-replicate, drop-of-length-le}
@@ -21,12 +21,12 @@ use Rattle.table.specs.Local.{rangesb, kindsb, zerosb, chainb, localb}
 
 -- ---- the words
 
-pub cleared-all : (w : List ℕ) → paste w 0 (replicate (length w) 0) (length w) ≡ replicate (length w) 0
-cleared-all w =
+pub cleared-all : (w v : List ℕ) → v ≡ paste w 0 (replicate (length w) 0) (length w) → v ≡ replicate (length w) 0
+cleared-all w v is =
     let z : List ℕ = replicate (length w) 0 in
     let all = take-all (length w) z (rw length-replicate (le-refl (length w))) in
     let behind : drop (0 + length w) w ≡ [] = drop-of-length-le w {i = 0 + length w} (omega arith) in
-    rw (all, behind) (append-nil z)
+    is ∙ rw (all, behind) (append-nil z)
 
 -- ---- the whole call
 
