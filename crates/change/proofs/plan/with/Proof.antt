@@ -64,7 +64,8 @@ returns c =
     let class = c .before .before .before .before .before .before .class-of .ensures in
     let none = c .before .before .before .before .none .ensures in
     let gap = c .before .before .before .with-gap .ensures in
-    plan-with h _ _ former next _ _ _ _ _ _ _ class none gap (c .before .before .with .ensures) (c .before .close .ensures) (c .planned .ensures)
+    let x = c .before .before .before .before .before .before .before .before .before .before .args .piece in
+    plan-with h _ _ former next x _ _ _ _ _ _ class none gap (c .before .before .with .ensures) (c .before .close .ensures) (c .planned .ensures)
 
 pub with-spec : {M : Type 1} → statement M
 with-spec =
