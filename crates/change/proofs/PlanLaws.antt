@@ -2,8 +2,8 @@
 --
 --   closing-next, closing-none    what closes before a live piece, and before nothing
 --   end-behind-next, -none        the end, likewise
---   sums                          what a sound table's entries leave of the numbers of 64 bits
 --   count-closing                 a plan puts in no more entries than a Few holds
+--   sums                          what a sound table's entries leave of the numbers of 64 bits
 --   plan-filled, plan-ends        the table and the end, for any new pieces between the two live ones
 --   planned-for                   the whole: `planFor` is `Planned`
 --   plan-without, plan-with       the plans, as the code makes them
