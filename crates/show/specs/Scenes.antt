@@ -1,10 +1,109 @@
--- The words of a scene.
+-- A scene: the state and the words, and what a call leaves of it.
 --
---   sceneWords      how many there are: of 32 entries
+--   sceneWords            how many words there are: of 32 entries
+--   partOf len            so many words, or all there are
+--   blankWords            all of them 0
+--   withEntry w i a z k   the words w with entry i at a, of z bytes and kind k; as they are, if there is no entry i
+--   SameScene s t         two scenes have the same words and the same state
+--   Left                  what a call leaves: its answer, the state, and the words of the lent table
+--   leftBy c sp w         what the call c leaves
+--   askedOf s c           the call c, on the lent part of the scene s; the words behind that stay
+--   openedAs P M len      an opening over the first words of a blank scene
+--   openedByDefault       the default opening over all of them
+--   RefusedAs s c n       the call c is refused with n, and leaves the scene s
+--   afterStepFive, afterStepTwelve     the words of document 01's run
 --
 -- Assumes nothing.
+use mathlib.Core.Path.{_≡_}
+use mathlib.Core.Bool.{cond}
+use mathlib.Core.List.{List, [], _∷_, _++_}
 use Prim.Native.Nat.{ℕ, _*_}
-use Rattle.pieces.specs.Words.{entryWords}
+use lib.Dec.{ltb}
+use lib.ListN.{take, drop, replicate}
+use Rattle.pieces.specs.Pieces.{piece, statusOf}
+use Rattle.pieces.specs.Words.{entryWords, laid}
+use Rattle.space.specs.Giving.{released, extended, shortened}
+use Rattle.space.specs.Opening.{opened, defaultPage, defaultLimit}
+use Rattle.space.specs.Outcomes.{Outcome}
+use Rattle.space.specs.Placing.{allocated}
+use Rattle.space.specs.declared.Space.{Space}
+use Rattle.show.specs.Answers.{ofNumber}
+use Rattle.show.specs.declared.answer.Answer.{Answer}
+use Rattle.show.specs.declared.answer.Answer.the-variants.{At, Done, Refused}
+use Rattle.show.specs.declared.scene.Asked.{Asked}
+use Rattle.show.specs.declared.scene.Call.{Call}
+use Rattle.show.specs.declared.scene.Call.the-variants.{Allocate, Release, Extend, Shorten}
+use Rattle.show.specs.declared.scene.Scene.{Scene}
+use Rattle.show.specs.declared.scene.Told.{Told}
+
+abbrev pub sceneEntries : ℕ
+sceneEntries = 32
 
 abbrev pub sceneWords : ℕ
-sceneWords = 32 * entryWords
+sceneWords = sceneEntries * entryWords
+
+abbrev pub partOf : ℕ → ℕ
+partOf len = cond (ltb sceneWords len) sceneWords len
+
+abbrev pub blankWords : List ℕ
+blankWords = replicate sceneWords 0
+
+unfoldable pub withEntry : List ℕ → ℕ → ℕ → ℕ → ℕ → List ℕ
+withEntry w i a z k = cond (ltb i sceneEntries) (laid w i (piece a z (statusOf k) ∷ [])) w
+
+abbrev pub SameScene : Scene → Scene → Type 0
+SameScene s t = (s .words ≡ t .words) × (s .space ≡ t .space)
+
+-- ---- what a call leaves
+
+pub record Left : Type 0 where
+  pub answer : Answer
+  pub state : Space
+  pub words : List ℕ
+
+abbrev pub toldAs : Told → List ℕ → Left
+toldAs r w = record { answer = r .answer; state = r .space; words = w }
+
+abbrev pub leftAs : Answer → Outcome → Left
+leftAs accepted o = record { answer = ofNumber (o .refusal) accepted; state = o .state; words = o .words }
+
+unfoldable pub leftBy : Call → Space → List ℕ → Left
+leftBy (Allocate t s) sp w = let p = allocated sp t s w in leftAs (At (p .address)) (p .outcome)
+leftBy (Release a z) sp w = leftAs Done (released sp a z w)
+leftBy (Extend a z m) sp w = leftAs Done (extended sp a z m w)
+leftBy (Shorten a z k) sp w = leftAs Done (shortened sp a z k w)
+
+-- with these words, and with what a call leaves beside them
+abbrev pub askedAs : ℕ → List ℕ → Left → Asked
+askedAs len w o = record { scene = record { space = o .state; words = w; len = len }; answer = o .answer }
+
+-- the lent part is the first n words
+unfoldable pub askedIn : Scene → Call → ℕ → Asked
+askedIn s c n = let o = leftBy c (s .space) (take n (s .words)) in askedAs (s .len) (o .words ++ drop n (s .words)) o
+
+abbrev pub askedOf : Scene → Call → Asked
+askedOf s c = askedIn s c (partOf (s .len))
+
+abbrev pub RefusedAs : Scene → Call → ℕ → Type 0
+RefusedAs s c n = (askedOf s c .answer ≡ Refused n) × SameScene s (askedOf s c .scene)
+
+unfoldable pub openedIn : ℕ → ℕ → ℕ → List ℕ → ℕ → Asked
+openedIn P M len w n = let o = leftAs Done (opened P M (take n w)) in askedAs len (o .words ++ drop n w) o
+
+abbrev pub openedAs : ℕ → ℕ → ℕ → Asked
+openedAs P M len = openedIn P M len blankWords (partOf len)
+
+unfoldable pub openedOver : ℕ → ℕ → List ℕ → Asked
+openedOver P M w = let o = leftAs Done (opened P M w) in askedAs sceneWords (o .words) o
+
+abbrev pub openedByDefault : Asked
+openedByDefault = openedOver defaultPage defaultLimit blankWords
+
+-- ---- document 01's run
+
+abbrev pub afterStepTwelve : List ℕ
+afterStepTwelve = withEntry (withEntry (withEntry (withEntry blankWords 0 0 96 1) 1 96 416 1) 2 512 100 2) 3 612 412 5
+
+abbrev pub afterStepFive : List ℕ
+afterStepFive =
+    withEntry (withEntry (withEntry (withEntry afterStepTwelve 4 1024 700 3) 5 1724 324 6) 6 2048 10 1) 7 2058 502 4

@@ -1,4 +1,10 @@
 // A call as a claim.
+ghost use mathlib.Core.Path.{_≡_};
+ghost use mathlib.Core.Bool.{Bool, _&&_};
+ghost use lib.Dec.{eqb};
+ghost use Rattle.show.specs.Answers.{sameb};
+ghost use Rattle.show.specs.Claims.{counted, Tells};
+ghost use Rattle.show.specs.Scenes.{SameScene, askedOf, RefusedAs};
 use crate::answer;
 use crate::answer::Answer;
 use crate::claim;
@@ -32,7 +38,9 @@ pub fn answers(
     call: Call,
     expected: Answer,
     end: u64,
-) -> Tally {
+) -> Tally
+    ensures { λ r. ⌜ r ≡ counted t (sameb expected (askedOf before call .answer) && eqb (askedOf before call .scene .space .end) end) ⌝ }
+{
     let asked = scene::ask(before, call);
     let found = asked.answer;
     let left = asked.scene;
@@ -54,7 +62,9 @@ fn say_difference(expected: Scene, found: Scene) {
 }
 
 // That two scenes have the same words and the same state.
-pub fn same(t: Tally, text: &[u8], k: u64, expected: Scene, found: Scene) -> Tally {
+pub fn same(t: Tally, text: &[u8], k: u64, expected: Scene, found: Scene) -> Tally
+    ensures { λ r. ⌜ ((h : Bool) → Tells h (SameScene expected found) → r ≡ counted t h) ⌝ }
+{
     let held = scene::same_scene(expected, found);
     claim::say_claim(held, text, k);
     if !held {
@@ -64,7 +74,9 @@ pub fn same(t: Tally, text: &[u8], k: u64, expected: Scene, found: Scene) -> Tal
 }
 
 // That the call is refused with this number, and leaves every word and the state as they came.
-pub fn refuses(t: Tally, text: &[u8], k: u64, before: Scene, call: Call, number: u64) -> Tally {
+pub fn refuses(t: Tally, text: &[u8], k: u64, before: Scene, call: Call, number: u64) -> Tally
+    ensures { λ r. ⌜ ((h : Bool) → Tells h (RefusedAs before call number) → r ≡ counted t h) ⌝ }
+{
     let asked = scene::ask(before, call);
     let found = asked.answer;
     let expected = Answer::Refused(number);

@@ -1,6 +1,10 @@
 // Claims, each a sentence: a line of a text that has the claims of a group, named by its number there. One that holds prints `ok   CLAIM`;
 // another prints `FAIL CLAIM: expected X, found Y`. They are counted.
 ghost use mathlib.Core.Path.{_≡_};
+ghost use mathlib.Core.Bool.{Bool, true, false};
+ghost use lib.Dec.{eqb};
+ghost use Rattle.show.specs.Answers.{sameb};
+ghost use Rattle.show.specs.Claims.{oneMore, noClaims, counted, Tells};
 use crate::answer;
 use crate::answer::Answer;
 use crate::text::say;
@@ -13,9 +17,13 @@ pub struct Tally {
     pub failures: u64,
 }
 
+const LARGEST: u64 = 18446744073709551615;
+
 // One more, up to the largest number.
-pub fn one_more(n: u64) -> u64 {
-    if n < 18446744073709551615 {
+pub fn one_more(n: u64) -> u64
+    ensures { λ r. ⌜ r ≡ oneMore n ⌝ }
+{
+    if n < LARGEST {
         return n + 1;
     }
     n
@@ -49,7 +57,9 @@ fn say_numbers(expected: u64, found: u64) {
 }
 
 impl Tally {
-    pub fn none() -> Tally {
+    pub fn none() -> Tally
+        ensures { λ r. ⌜ r ≡ noClaims ⌝ }
+    {
         Tally {
             claims: 0,
             failures: 0,
@@ -57,7 +67,7 @@ impl Tally {
     }
 
     pub fn held(self) -> Tally
-        ensures { λ r. ⌜ r .failures ≡ self .failures ⌝ }
+        ensures { λ r. ⌜ r ≡ counted self true ⌝ }
     {
         Tally {
             claims: one_more(self.claims),
@@ -65,14 +75,18 @@ impl Tally {
         }
     }
 
-    pub fn failed(self) -> Tally {
+    pub fn failed(self) -> Tally
+        ensures { λ r. ⌜ r ≡ counted self false ⌝ }
+    {
         Tally {
             claims: one_more(self.claims),
             failures: one_more(self.failures),
         }
     }
 
-    pub fn count(self, held: bool) -> Tally {
+    pub fn count(self, held: bool) -> Tally
+        ensures { λ r. ⌜ r ≡ counted self held ⌝ }
+    {
         if held {
             return self.held();
         }
@@ -80,7 +94,9 @@ impl Tally {
     }
 
     // That a number is this one.
-    pub fn number(self, text: &[u8], k: u64, expected: u64, found: u64) -> Tally {
+    pub fn number(self, text: &[u8], k: u64, expected: u64, found: u64) -> Tally
+        ensures { λ r. ⌜ r ≡ counted self (eqb expected found) ⌝ }
+    {
         let held = expected == found;
         say_claim(held, text, k);
         if !held {
@@ -90,7 +106,9 @@ impl Tally {
     }
 
     // That an answer is this one.
-    pub fn answer(self, text: &[u8], k: u64, expected: Answer, found: Answer) -> Tally {
+    pub fn answer(self, text: &[u8], k: u64, expected: Answer, found: Answer) -> Tally
+        ensures { λ r. ⌜ r ≡ counted self (sameb expected found) ⌝ }
+    {
         let held = answer::same_answer(expected, found);
         say_claim(held, text, k);
         if !held {
@@ -100,7 +118,9 @@ impl Tally {
     }
 
     // That the words are these.
-    pub fn words(self, text: &[u8], k: u64, expected: &[u64], found: &[u64]) -> Tally {
+    pub fn words(self, text: &[u8], k: u64, expected: &[u64], found: &[u64]) -> Tally
+        ensures { λ r. ⌜ ((h : Bool) → Tells h (now (expected .entry) ≡ now (found .entry)) → r ≡ counted self h) ⌝ }
+    {
         let held = words::same_words(expected, found);
         say_claim(held, text, k);
         if !held {

@@ -2,9 +2,8 @@
 // compares every word after it, those behind the table too.
 ghost use Prim.Native.Nat.{_≤_};
 ghost use mathlib.Core.Path.{_≡_};
-ghost use mathlib.Core.Bool.{true};
-ghost use lib.ListN.{length};
-ghost use Rattle.show.specs.Scenes.{sceneWords};
+ghost use Rattle.show.specs.Claims.{Tells};
+ghost use Rattle.show.specs.Scenes.{sceneWords, partOf, blankWords, withEntry, SameScene, toldAs, leftBy, askedOf, openedAs, openedByDefault};
 use crate::answer;
 use crate::answer::Answer;
 use crate::entry;
@@ -50,19 +49,15 @@ pub struct Asked {
 }
 
 pub fn blank() -> [u64; WORDS]
-    ensures { λ r. ⌜ sceneWords ≡ length r ⌝ }
+    ensures { λ r. ⌜ r ≡ blankWords ⌝ }
 {
     [0u64; WORDS]
 }
 
 // The words with entry i in them, of a kind 1 to 6; as they are, if there is no entry i.
-pub fn with_entry(
-    words: [u64; WORDS],
-    i: usize,
-    address: u64,
-    size: u64,
-    kind: u64,
-) -> [u64; WORDS] {
+pub fn with_entry(words: [u64; WORDS], i: usize, address: u64, size: u64, kind: u64) -> [u64; WORDS]
+    ensures { λ r. ⌜ r ≡ withEntry words i address size kind ⌝ }
+{
     let mut new = words;
     if i < ENTRIES {
         let status = pieces::status_of(kind);
@@ -80,7 +75,9 @@ pub fn with_entry(
 }
 
 // An opened space whose table is the first `len` words.
-pub fn open(page: u64, limit: u64, len: usize) -> Asked {
+pub fn open(page: u64, limit: u64, len: usize) -> Asked
+    ensures { λ r. ⌜ r ≡ openedAs page limit len ⌝ }
+{
     let mut words = blank();
     let lent = part(len);
     let done = Space::open(page, limit, &mut words[..lent]);
@@ -97,7 +94,9 @@ pub fn open(page: u64, limit: u64, len: usize) -> Asked {
 }
 
 // The default opening over all words.
-pub fn open_default() -> Asked {
+pub fn open_default() -> Asked
+    ensures { λ r. ⌜ r ≡ openedByDefault ⌝ }
+{
     let mut words = blank();
     let done = Space::open_default(&mut words);
     let now = done.space;
@@ -112,7 +111,9 @@ pub fn open_default() -> Asked {
     }
 }
 
-fn tell(space: Space, table: &mut [u64], call: Call) -> Told {
+fn tell(space: Space, table: &mut [u64], call: Call) -> Told
+    ensures { λ r. ⌜ toldAs r (now (table .exit)) ≡ leftBy call space (now (table .entry)) ⌝ }
+{
     match call {
         Call::Allocate(code, size) => {
             let done = space.allocate(table, code, size);
@@ -156,7 +157,8 @@ fn tell(space: Space, table: &mut [u64], call: Call) -> Told {
 
 // So many words, or all there are.
 pub fn part(len: usize) -> usize
-    ensures { λ r. ⌜ r ≤ sceneWords ⌝ }
+    ensures within { λ r. ⌜ r ≤ sceneWords ⌝ }
+    ensures is { λ r. ⌜ r ≡ partOf len ⌝ }
 {
     if WORDS < len {
         return WORDS;
@@ -165,7 +167,9 @@ pub fn part(len: usize) -> usize
 }
 
 // The call, on the lent table.
-pub fn ask(scene: Scene, call: Call) -> Asked {
+pub fn ask(scene: Scene, call: Call) -> Asked
+    ensures { λ r. ⌜ r ≡ askedOf scene call ⌝ }
+{
     let mut words = scene.words;
     let len = part(scene.len);
     let state = scene.space;
@@ -183,14 +187,16 @@ pub fn ask(scene: Scene, call: Call) -> Asked {
 }
 
 // What the call leaves.
-pub fn after(scene: Scene, call: Call) -> Scene {
+pub fn after(scene: Scene, call: Call) -> Scene
+    ensures { λ r. ⌜ r ≡ askedOf scene call .scene ⌝ }
+{
     let asked = ask(scene, call);
     let left = asked.scene;
     left
 }
 
 pub fn same_state(a: Space, other: Space) -> bool
-    ensures { λ r. ⌜ (r ≡ true → a ≡ other) ⌝ }
+    ensures { λ r. ⌜ Tells r (a ≡ other) ⌝ }
 {
     if a.page != other.page {
         return false;
@@ -205,7 +211,9 @@ pub fn same_state(a: Space, other: Space) -> bool
 }
 
 // Whether two scenes have the same words and the same state.
-pub fn same_scene(a: Scene, other: Scene) -> bool {
+pub fn same_scene(a: Scene, other: Scene) -> bool
+    ensures { λ r. ⌜ Tells r (SameScene a other) ⌝ }
+{
     let old = a.words;
     let new = other.words;
     if !words::same_words(&old, &new) {

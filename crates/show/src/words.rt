@@ -1,15 +1,13 @@
 // Two slices of words, compared word by word.
 ghost use mathlib.Core.Path.{_≡_};
-ghost use mathlib.Core.Bool.{true};
-ghost use lib.ListN.{length, getD};
-ghost use Prim.Native.Nat.{ℕ, _≤_, _<_};
+ghost use Rattle.show.specs.Claims.{Tells};
+ghost use Rattle.show.specs.Words.{agreed};
 use crate::text::say;
 use crate::text::say_number;
 
 // The index of the first word that differs; the length of the shorter one, where there is none.
 pub fn agreeing(a: &[u64], b: &[u64]) -> usize
-    ensures within { λ r. ⌜ (r ≤ length (now (a .entry))) × (r ≤ length (now (b .entry))) ⌝ }
-    ensures agree { λ r. ⌜ ((k : ℕ) → k < r → getD (now (a .entry)) k 0 ≡ getD (now (b .entry)) k 0) ⌝ }
+    ensures { λ r. ⌜ r ≡ agreed (now (a .entry)) (now (b .entry)) ⌝ }
 {
     let mut i: usize = 0;
     // The first i words agree.
@@ -27,7 +25,7 @@ pub fn agreeing(a: &[u64], b: &[u64]) -> usize
 
 // Whether they have the same words.
 pub fn same_words(a: &[u64], b: &[u64]) -> bool
-    ensures { λ r. ⌜ (r ≡ true → now (a .entry) ≡ now (b .entry)) ⌝ }
+    ensures { λ r. ⌜ Tells r (now (a .entry) ≡ now (b .entry)) ⌝ }
 {
     if a.len() != b.len() {
         return false;

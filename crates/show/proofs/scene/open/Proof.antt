@@ -1,11 +1,15 @@
 -- The lent part is within the words of a scene, by what `part` ensures.
 -- Assumes nothing.
-use mathlib.Core.Path.{_≡_, sym}
+use mathlib.Core.Path.{_≡_, sym, ap, _∙_}
+use mathlib.Core.List.{List, _++_}
+use Prim.Native.Nat.{ℕ}
 use native.Mathlib.Omega.{arith}
-use lib.ListN.{length}
+use lib.ListN.{length, drop}
 use lib.Seq.{length-take-le}
+use Rattle.show.specs.Scenes.{sceneWords, leftAs, askedAs, partOf, openedIn}
+use Rattle.space.specs.Outcomes.{Outcome}
+use Rattle.show.specs.declared.answer.Answer.the-variants.{Done}
 use borrow.Author.Needs.{needs}
-use Rattle.show.specs.Scenes.{sceneWords}
 use Rattle.show.proofs.scene.open.Statement.{statement}
 use Rattle.show.proofs.scene.open.Tie as tie
 
@@ -21,7 +25,7 @@ array-borrow-prefix-words c = search needs
 slice-aggregate-open : tie.Need-slice-aggregate-open
 slice-aggregate-open c =
     let n : length (c .before .before .blank .result) ≡ sceneWords = search needs in
-    sym (length-take-le _ _ (omega (arith, n, c .before .part .ensures)))
+    sym (length-take-le _ _ (omega (arith, n, c .before .part .ensures .0)))
 
 open-requires : tie.Need-open-requires
 open-requires c κs = search needs
@@ -33,7 +37,17 @@ of-number-requires : tie.Need-of-number-requires
 of-number-requires c κs = search needs
 
 returns : tie.Need-returns
-returns c = search needs
+unfolding openedIn
+returns c =
+    let call = c .before .before .before .before in
+    let lent = call .before .before in
+    let a = lent .before .before .args in
+    let w = lent .before .blank .result in
+    let rest = drop (lent .part .result) w in
+    rw (c .of-number .ensures, c .before .open-number .ensures)
+    (ap (λ (o : Outcome). askedAs (a .len) (o .words ++ rest) (leftAs Done o)) (call .«open» .ensures)
+    ∙ (ap (openedIn (a .page) (a .limit) (a .len) w) (lent .part .ensures .1)
+    ∙ ap (λ (v : List ℕ). openedIn (a .page) (a .limit) (a .len) v (partOf (a .len))) (lent .before .blank .ensures)))
 
 pub open-spec : {M : Type 1} → statement M
 open-spec =

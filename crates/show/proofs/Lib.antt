@@ -1,0 +1,2 @@
+-- Laws that the proofs of the test programs' library share.
+mod WordLaws
