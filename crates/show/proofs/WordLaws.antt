@@ -4,12 +4,12 @@
 --   agreed-all        two lists of one length that agree to the end are equal; agreed-before, before that index they agree
 --   agreed-same       a list agrees with itself to its end
 --   tells-one         two tests of one thing say the same
---   not-true, not-false, not-not, not-told     a Boolean and its negation
+--   not-told          a test of what does not hold
 --   refusal-same, same-refusal     an answer is this refusal exactly when the test says so
 --
 -- Assumes nothing.
 use Prim.Native.Nat.{ℕ, zero, suc, _≤_, _<_}
-use mathlib.Core.Bool.{Bool, true, false, not, false≢true}
+use mathlib.Core.Bool.{Bool, true, false, false≢true}
 use mathlib.Core.List.{List, [], _∷_}
 use mathlib.Core.Path.{_≡_, refl, sym, ap}
 use native.Mathlib.Omega.{arith}
@@ -60,18 +60,6 @@ tells-one {b = true} {h = true} t u = refl
 tells-one {b = true} {h = false} t u = sym (u .1 (t .0 refl))
 tells-one {b = false} {h = true} t u = t .1 (u .0 refl)
 tells-one {b = false} {h = false} t u = refl
-
-pub not-true : {b : Bool} → not b ≡ true → b ≡ true → ⊥
-not-true {b = true} n e = false≢true n
-not-true {b = false} n e = false≢true e
-
-pub not-false : {b : Bool} → not b ≡ false → b ≡ true
-not-false {b = true} n = refl
-not-false {b = false} n = sym n
-
-pub not-not : {b : Bool} → not b ≡ true → b ≡ false
-not-not {b = true} n = sym n
-not-not {b = false} n = refl
 
 pub not-told : {b : Bool} → (b ≡ true → ⊥) → b ≡ false
 not-told {b = true} n = absurd (n refl)

@@ -1,11 +1,13 @@
 -- The answer tells, and then the scene.
 -- Assumes nothing.
+use mathlib.Core.Bool.{false≢true}
 use mathlib.Core.Path.{sym, ap, _∙_, subst}
 use borrow.Author.Needs.{needs}
 use Rattle.show.specs.Claims.{counted, Tells}
 use Rattle.show.specs.Scenes.{SameScene}
 use Rattle.show.specs.declared.scene.Asked.{Asked}
-use Rattle.show.proofs.WordLaws.{not-false, not-true, not-not, not-told, same-refusal, refusal-same}
+use borrow.Author.Tests.{not-true, not-false}
+use Rattle.show.proofs.WordLaws.{not-told, same-refusal, refusal-same}
 use Rattle.show.proofs.case.refuses.Statement.{statement}
 use Rattle.show.proofs.case.refuses.Tie as tie
 
@@ -25,8 +27,9 @@ returns c =
     let other = c .before .before .same-answer .ensures in
     let said = ap (λ (x : Asked). x .answer) (asked .ask .ensures) in
     λ h tells.
-    let none = not-told (λ e. not-true (c .before .if1 .taken) (other ∙ refusal-same (said ∙ tells .0 e .0))) in
-    c .answer .ensures ∙ ap (counted (a .t)) (sym other ∙ (not-not (c .before .if1 .taken) ∙ sym none))
+    let differs = not-true _ (c .before .if1 .taken) in
+    let none = not-told (λ e. false≢true (sym differs ∙ (other ∙ refusal-same (said ∙ tells .0 e .0)))) in
+    c .answer .ensures ∙ ap (counted (a .t)) (sym other ∙ (differs ∙ sym none))
 
 same-requires : tie.Need-same-requires
 same-requires c κs = search needs
@@ -37,7 +40,7 @@ returns-2 c =
     let asked = tested .before .before in
     let a = asked .before .before .args in
     let said = ap (λ (x : Asked). x .answer) (asked .ask .ensures) in
-    let says = sym said ∙ same-refusal _ (sym (tested .before .same-answer .ensures) ∙ not-false (tested .if1 .left)) in
+    let says = sym said ∙ same-refusal _ (sym (tested .before .same-answer .ensures) ∙ not-false _ (tested .if1 .left)) in
     λ h tells. c .same .ensures h
     (subst (λ (x : Asked). Tells h (SameScene (a .before) (x .scene))) (sym (asked .ask .ensures)) ((λ e. tells .0 e .1), λ e. tells .1 (says, e)))
 
