@@ -1,4 +1,4 @@
--- The customer's theorems: Demands.antt is the file to read first.
+-- The customer's theorems: Signed.antt has them all, and Demands.antt is the file to read first.
 
 pub mod Calls
 pub mod Run
