@@ -17,7 +17,6 @@ use Rattle.sections.specs.Sections.{sections}
 use Rattle.space.proofs.OutcomeLaws.{passed, is-sound-true}
 use Rattle.space.specs.Listing.{ListOutcome, uncounted, listedAs, listed}
 use Rattle.space.specs.Outcomes.{SoundSpace, soundb, entriesOf}
-use Rattle.space.specs.declared.Space.{Space}
 
 pub listings : Listings
 unfolding listed listedAs

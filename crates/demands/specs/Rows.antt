@@ -5,6 +5,7 @@
 --   ZeroAsked z m              the size or the change is 0
 --   HasRoom sp w a z m         a live piece of z bytes at a has the stated room for m bytes behind it
 --   HasLeft sp w a z k         enough remains of a live piece of z bytes at a without k
+--   NoPlace sp w c s           the only place for s bytes of class c is at E, and E would pass M
 --   LastLarge sp w a z         a live large piece of z bytes at a is the last of the file
 --   TooMany sp w ps            the table that the live pieces ps determine needs more than C entries
 --   FullThere sp w t s         so it is with the new piece at the rule's place

@@ -1,6 +1,7 @@
 -- Claims that are counted, and what a test tells.
 --
---   oneMore n         one more, up to the largest number
+--   largestNumber     the largest number of 64 bits
+--   oneMore n         one more, up to it
 --   noClaims          no claim
 --   counted t held    one claim more, and one failure more where it does not hold
 --   Tells b A         b is true exactly when A holds

@@ -1,15 +1,17 @@
 -- A scene: the state and the words, and what a call leaves of it.
 --
---   sceneWords            how many words there are: of 32 entries
+--   sceneEntries, sceneWords   how many entries there are, and their words
 --   partOf len            so many words, or all there are
 --   blankWords            all of them 0
 --   withEntry w i a z k   the words w with entry i at a, of z bytes and kind k; as they are, if there is no entry i
 --   SameScene s t         two scenes have the same words and the same state
 --   Left                  what a call leaves: its answer, the state, and the words of the lent table
+--   toldAs r w, leftAs a o   the same of what was told, and of an outcome of `space` whose answer is a where it is accepted
 --   leftBy c sp w         what the call c leaves
---   askedOf s c           the call c, on the lent part of the scene s; the words behind that stay
---   openedAs P M len      an opening over the first words of a blank scene
---   openedByDefault       the default opening over all of them
+--   askedAs len w o       the scene of the words w after a call left o, with its answer
+--   askedOf s c           the call c, on the lent part of the scene s; the words behind that stay. askedIn has the lent words counted
+--   openedAs P M len      an opening over the first words of a blank scene. openedIn has the words, and those lent counted
+--   openedByDefault       the default opening over all of them; openedOver P M w any opening over all words w
 --   RefusedAs s c n       the call c is refused with n, and leaves the scene s
 --   afterStepFive, afterStepTwelve     the words of document 01's run
 --
