@@ -6,9 +6,10 @@
 //   free_entry    an entry is freed: merged with its neighbours, its emptied page handed over, the file's end cut
 //   splice        entries replaced in place
 //   space_allocate, space_release      the calls, on a struct and a lent table
+//   space_extend, space_shorten        two more, which came later; nothing above them has changed since
 //
-// It uses the C library for `read` and `write` alone, and no header, since the kit's compiler has none. Not here: extending, shortening and
-// listing, which the workload has not.
+// It uses the C library for `read` and `write` alone, and no header, since the kit's compiler has none. Not here: listing, which the workload
+// has not.
 typedef __UINT64_TYPE__ uint64_t;
 typedef __SIZE_TYPE__ size_t;
 typedef _Bool bool;
@@ -21,7 +22,7 @@ long write(int fd, const void *from, size_t bytes);
 enum { ENTRY_WORDS = 3, MOST_WORDS = 1024 * ENTRY_WORDS, LEAST_WORDS = 4 * ENTRY_WORDS };
 enum { METADATA = 1, RAW = 2 };
 enum { LIVE_LARGE = 3, FREE_METADATA = 4, FREE_RAW = 5, FREE_LARGE = 6, TO_FREE = 3 };
-enum { NOT_SOUND = 2, UNKNOWN_TYPE = 3, NO_BYTES = 4, BEYOND_LIMIT = 5, TABLE_FULL = 6, NOT_LIVE = 7 };
+enum { NOT_SOUND = 2, UNKNOWN_TYPE = 3, NO_BYTES = 4, BEYOND_LIMIT = 5, TABLE_FULL = 6, NOT_LIVE = 7, NO_ROOM_BEHIND = 8, TOO_LITTLE_LEFT = 9 };
 
 static const uint64_t LEAST_PAGE = 512, LARGEST_PAGE = 1u << 30, LARGEST_LIMIT = (uint64_t)1 << 62;
 
@@ -270,9 +271,78 @@ int space_release(struct space *s, uint64_t *table, size_t words, uint64_t addre
     return NOT_LIVE;
 }
 
+// The live entry with this address and size; the count where there is none.
+static size_t named(const struct space *s, const uint64_t *table, uint64_t address, uint64_t size) {
+    for (size_t i = 0; i < s->count; i++) {
+        struct entry e = entry_at(table, i);
+        if (e.address == address && e.size == size && is_live(e.kind))
+            return i;
+    }
+    return s->count;
+}
+
+// The live entry i becomes e, with so many free bytes behind it in place of the entries up to `to`; the file then ends at `end`.
+static int resize(struct space *s, uint64_t *table, size_t words, size_t i, size_t to, struct entry e, uint64_t rest, uint64_t end) {
+    struct entry with[2];
+    size_t count = add_piece(with, 0, e.address, e.size, e.kind, e.size + rest);
+    if (s->count - (to - i) + count > words / ENTRY_WORDS)
+        return TABLE_FULL;
+    splice(s, table, i, to, with, count);
+    s->end = end;
+    return 0;
+}
+
+int space_extend(struct space *s, uint64_t *table, size_t words, uint64_t address, uint64_t size, uint64_t by) {
+    if (!is_sound(s, table, words))
+        return NOT_SOUND;
+    if (size == 0 || by == 0)
+        return NO_BYTES;
+    size_t i = named(s, table, address, size);
+    if (i == s->count)
+        return NOT_LIVE;
+    struct entry e = entry_at(table, i);
+    bool large = e.kind == LIVE_LARGE;
+    uint64_t behind = address + size;
+    if (large && i + 1 == s->count) {
+        if (by > s->limit - behind || round_up(s->page, behind + by) > s->limit)
+            return BEYOND_LIMIT;
+        uint64_t end = round_up(s->page, behind + by);
+        e.size += by;
+        return resize(s, table, words, i, i + 1, e, end - (behind + by), end);
+    }
+    if (i + 1 == s->count || (!large && (behind % s->page == 0 || by >= s->page - size)))
+        return NO_ROOM_BEHIND;
+    struct entry next = entry_at(table, i + 1);
+    if ((large ? next.kind != FREE_LARGE : is_live(next.kind)) || next.size < by)
+        return NO_ROOM_BEHIND;
+    e.size += by;
+    return resize(s, table, words, i, i + 2, e, next.size - by, s->end);
+}
+
+int space_shorten(struct space *s, uint64_t *table, size_t words, uint64_t address, uint64_t size, uint64_t by) {
+    if (!is_sound(s, table, words))
+        return NOT_SOUND;
+    if (size == 0 || by == 0)
+        return NO_BYTES;
+    size_t i = named(s, table, address, size), to = i + 1;
+    if (i == s->count)
+        return NOT_LIVE;
+    struct entry e = entry_at(table, i);
+    bool large = e.kind == LIVE_LARGE;
+    if (by >= size || (large && size - by < s->page))
+        return TOO_LITTLE_LEFT;
+    uint64_t rest = by, cut = 0, start = large ? 0 : address / s->page * s->page;
+    if (merges(s, table, to, e.kind + TO_FREE, start))
+        rest += entry_at(table, to++).size;
+    if (large && to == s->count)
+        cut = rest / s->page * s->page;
+    e.size -= by;
+    return resize(s, table, words, i, to, e, rest - cut, s->end - cut);
+}
+
 // The workload, as in crates/bench/src/main.rt.
 
-static const uint64_t PAGE = 4096, LARGEST_SMALL = 1024, FIRST_DRAW = 88172645463325252u;
+static const uint64_t PAGE = 4096, LARGEST_SMALL = 1024, LARGEST_CHANGE = 64, FIRST_DRAW = 88172645463325252u;
 
 struct run {
     struct space space;
@@ -286,7 +356,7 @@ static uint64_t drawn(uint64_t x) {
 }
 
 static void note(struct run *run, uint64_t answer) {
-    run->accepted += answer < UINT64_MAX - 7;
+    run->accepted += answer < UINT64_MAX - TOO_LITTLE_LEFT;
     run->sum = drawn(run->sum + answer);
     run->sum = drawn(run->sum + run->space.end);
     run->sum = drawn(run->sum + run->space.count);
@@ -307,19 +377,36 @@ static size_t live_from(const uint64_t *table, size_t i, size_t n) {
     return i;
 }
 
-static void release(struct run *run, uint64_t *table, size_t words) {
-    size_t n = words / ENTRY_WORDS;
+// A live entry, found from any entry on, or from the first; the count where there is none.
+static size_t any_live(const struct run *run, const uint64_t *table, uint64_t draw) {
+    size_t n = run->space.count;
     if (n == 0)
-        return;
-    uint64_t draw = drawn(run->draw);
+        return n;
     size_t i = live_from(table, (draw >> 8) % n, n);
-    if (i == n)
-        i = live_from(table, 0, n);
-    if (i == n)
+    return i < n ? i : live_from(table, 0, n);
+}
+
+static void release(struct run *run, uint64_t *table, size_t words) {
+    uint64_t draw = drawn(run->draw);
+    size_t i = any_live(run, table, draw);
+    if (i == run->space.count)
         return;
     struct entry e = entry_at(table, i);
     run->draw = draw;
     int refusal = space_release(&run->space, table, words, e.address, e.size);
+    note(run, refusal ? UINT64_MAX - refusal : 0);
+}
+
+static void shorten_and_extend(struct run *run, uint64_t *table, size_t words) {
+    uint64_t draw = drawn(run->draw), by = 1 + (draw >> 32) % LARGEST_CHANGE;
+    size_t i = any_live(run, table, draw);
+    if (i == run->space.count)
+        return;
+    struct entry e = entry_at(table, i);
+    run->draw = draw;
+    int refusal = space_shorten(&run->space, table, words, e.address, e.size, by);
+    note(run, refusal ? UINT64_MAX - refusal : 0);
+    refusal = space_extend(&run->space, table, words, e.address, e.size - by, by);
     note(run, refusal ? UINT64_MAX - refusal : 0);
 }
 
@@ -332,6 +419,7 @@ static struct run worked(uint64_t *table, size_t words, uint64_t entries, uint64
     for (uint64_t i = 0; i < turns; i++) {
         release(&run, table, words);
         allocate(&run, table, words);
+        shorten_and_extend(&run, table, words);
     }
     return run;
 }
@@ -352,17 +440,16 @@ static void say(const char *name, uint64_t n) {
 int main(void) {
     static uint64_t table[MOST_WORDS];
     char text[64];
-    uint64_t asked[2] = {0, 0};
+    uint64_t asked[3] = {0, 0, 0};
     long got = read(0, text, sizeof text);
     for (long i = 0, which = 0; i < got; i++) {
         if (text[i] == ' ')
-            which = 1;
-        else if (text[i] >= '0' && text[i] <= '9')
+            which++;
+        else if (which < 3 && text[i] >= '0' && text[i] <= '9')
             asked[which] = asked[which] * 10 + (text[i] - '0');
     }
-    uint64_t entries = asked[0];
-    size_t words = entries < 960 ? (entries + entries / 16) * ENTRY_WORDS : MOST_WORDS;
-    struct run run = worked(table, words, entries, asked[1]);
+    size_t words = asked[1] < MOST_WORDS / ENTRY_WORDS ? asked[1] * ENTRY_WORDS : MOST_WORDS;
+    struct run run = worked(table, words, asked[0], asked[2]);
     say("checksum ", run.sum);
     say("accepted ", run.accepted);
     say("entries in all ", run.entries);

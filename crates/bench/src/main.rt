@@ -1,6 +1,6 @@
-// The benchmark's workload through the library. Standard input has two numbers: about how many entries the table is to have, and how many
-// turns to make. A turn releases a live piece and allocates another one; 7 of 8 requests are small. bench/space.c is the same workload
-// through a plain C version, and must write the same.
+// The benchmark's workload through the library. Standard input has three numbers: about how many entries the table is to have, for how many it
+// has room, and how many turns to make. A turn releases a live piece, allocates another one, shortens a third and extends that again; 7 of 8
+// requests are small. bench/space.c is the same workload through a plain C version, and must write the same.
 ghost use Prim.Native.Nat.{_*_, _≤_};
 ghost use mathlib.Core.Path.{_≡_};
 ghost use lib.ListN.{length};
@@ -11,15 +11,21 @@ use space::answers::DONE;
 use space::answers::address_of;
 use space::answers::allocate_number;
 use space::answers::release_number;
+use space::answers::resize_number;
 use std::num::wrapping_add_u64;
+use std::num::wrapping_sub_u64;
 
 const PAGE: u64 = 4096;
 
 const LIMIT: u64 = 4611686018427387904;
 
-const MOST_WORDS: usize = 1024 * ENTRY_WORDS;
+const MOST_ENTRIES: usize = 1024;
+
+const MOST_WORDS: usize = MOST_ENTRIES * ENTRY_WORDS;
 
 const LARGEST_SMALL: u64 = 1024;
+
+const LARGEST_CHANGE: u64 = 64;
 
 const FIRST_DRAW: u64 = 88172645463325252;
 
@@ -118,8 +124,8 @@ fn live_from(table: &[u64], i: usize, n: usize) -> Named
 }
 
 // A live piece, found from any entry on, or from the first.
-fn any_live(table: &[u64], draw: u64) -> Named {
-    let n = table.len() / ENTRY_WORDS;
+fn any_live(table: &[u64], space: Space, draw: u64) -> Named {
+    let n = pieces::entries_within(space.count, table.len());
     if n == 0 {
         return Named::Nothing;
     }
@@ -132,14 +138,43 @@ fn any_live(table: &[u64], draw: u64) -> Named {
 
 fn release(table: &mut [u64], run: Run) -> Run {
     let draw = drawn(run.draw);
-    let Named::Live(address, size) = any_live(table, draw) else {
+    let space = run.space;
+    let Named::Live(address, size) = any_live(table, space, draw) else {
         return run;
     };
-    let space = run.space;
     let done = space.release(table, address, size);
     let next = done.space;
     let answer = done.answer;
     noted(run, next, draw, release_number(answer), 0)
+}
+
+// By how many bytes a piece is shortened, and then extended again.
+fn change_of(draw: u64) -> u64 {
+    1 + (draw >> 32) % LARGEST_CHANGE
+}
+
+// The piece of `size` bytes without its last `by`, and then with them again.
+fn there_and_back(table: &mut [u64], run: Run, draw: u64, address: u64, size: u64, by: u64) -> Run {
+    let space = run.space;
+    let done = space.shorten(table, address, size, by);
+    let next = done.space;
+    let answer = done.answer;
+    let shorter = noted(run, next, draw, resize_number(answer), 0);
+    let space = shorter.space;
+    let done = space.extend(table, address, wrapping_sub_u64(size, by), by);
+    let next = done.space;
+    let answer = done.answer;
+    noted(shorter, next, draw, resize_number(answer), 0)
+}
+
+// A live piece, found from any entry on, is shortened and extended.
+fn resize(table: &mut [u64], run: Run) -> Run {
+    let draw = drawn(run.draw);
+    let space = run.space;
+    let Named::Live(address, size) = any_live(table, space, draw) else {
+        return run;
+    };
+    there_and_back(table, run, draw, address, size, change_of(draw))
 }
 
 // One allocation, if the table has fewer entries than that.
@@ -160,10 +195,11 @@ fn filled(table: &mut [u64], start: Run, entries: u64) -> Run {
     run
 }
 
-// A live piece is released, and another one allocated.
+// A live piece is released, another one allocated, and a third shortened and extended.
 fn turn(table: &mut [u64], run: Run) -> Run {
     let less = release(table, run);
-    allocate(table, less)
+    let more = allocate(table, less);
+    resize(table, more)
 }
 
 fn turned(table: &mut [u64], start: Run, turns: u64) -> Run {
@@ -217,36 +253,51 @@ fn with_digit(n: u64, byte: u8) -> u64 {
 // What standard input asks for.
 struct Wish {
     entries: u64,
+    capacity: u64,
     turns: u64,
 }
 
-// The two numbers of the text: digits up to a space, and the digits behind it.
+// A wish with one byte more read: a space behind a number starts the next one.
+fn wished(wish: Wish, which: u64, byte: u8) -> Wish {
+    let mut next = wish;
+    if which == 0 {
+        next.entries = with_digit(next.entries, byte);
+    }
+    if which == 1 {
+        next.capacity = with_digit(next.capacity, byte);
+    }
+    if which == 2 {
+        next.turns = with_digit(next.turns, byte);
+    }
+    next
+}
+
+// The three numbers of the text.
 fn asked(text: &[u8]) -> Wish {
-    let mut entries: u64 = 0;
-    let mut turns: u64 = 0;
-    let mut behind = false;
+    let mut wish = Wish {
+        entries: 0,
+        capacity: 0,
+        turns: 0,
+    };
+    let mut which: u64 = 0;
     let mut i: usize = 0;
     while i < text.len() {
         let byte = text[i];
         if byte == b' ' {
-            behind = true;
+            which = wrapping_add_u64(which, 1);
         }
-        if behind {
-            turns = with_digit(turns, byte);
-        } else {
-            entries = with_digit(entries, byte);
-        }
+        wish = wished(wish, which, byte);
         i = i + 1;
     }
-    Wish { entries, turns }
+    wish
 }
 
-// The words to lend for so many entries: a few more than they need, so that a full table is met now and then.
-fn words_for(entries: u64) -> usize
+// The words to lend for so many entries.
+fn words_for(capacity: u64) -> usize
     ensures { λ r. ⌜ r ≤ 1024 * entryWords ⌝ }
 {
-    if entries < 960 {
-        return (entries + entries / 16) as usize * ENTRY_WORDS;
+    if capacity < MOST_ENTRIES as u64 {
+        return capacity as usize * ENTRY_WORDS;
     }
     MOST_WORDS
 }
@@ -269,7 +320,7 @@ fn main() {
     let got = io::read_full(libc::STDIN_FILENO, &mut text);
     let wish = asked(&text[..got]);
     let mut table = zero_words();
-    let words = words_for(wish.entries);
+    let words = words_for(wish.capacity);
     let run = worked(&mut table[..words], wish.entries, wish.turns);
     let space = run.space;
     say(b"checksum ", run.sum);

@@ -5,7 +5,6 @@ ghost use Rattle.pieces.specs.Words.{entryWords};
 ghost use Rattle.filespace.specs.Lent.{Rows};
 use crate::report::Run;
 use crate::say;
-use crate::tables::entries_of;
 
 // A row has at most so many marks, and a picture so many rows.
 const MARKS: u64 = 64;
@@ -114,6 +113,11 @@ pub fn map(run: Run, table: &[u64])
         say::text(b"no map: state and table are not sound together\n");
         return;
     }
-    say_rows(table, entries_of(space.count, used), space.page, space.end);
+    say_rows(
+        table,
+        pieces::entries_within(space.count, used),
+        space.page,
+        space.end,
+    );
     say_legend(space.page, space.end);
 }

@@ -4,7 +4,6 @@ ghost use lib.ListN.{length};
 ghost use Rattle.pieces.specs.Words.{entryWords};
 use crate::report::Run;
 use crate::say;
-use pieces::ENTRY_WORDS;
 
 const COLUMN: usize = 12;
 
@@ -55,18 +54,6 @@ fn say_entry(page: u64, address: u64, size: u64, kind: u64) {
     say_page(page, address);
 }
 
-// How many entries a table has words for, of those that the state counts.
-pub fn entries_of(count: u64, words: usize) -> usize
-    ensures { λ r. ⌜ r * entryWords ≤ words ⌝ }
-{
-    let most = words / ENTRY_WORDS;
-    let n = count as usize;
-    if n < most {
-        return n;
-    }
-    most
-}
-
 fn say_entries(page: u64, n: usize, table: &[u64])
     requires { ⌜ n * entryWords ≤ length (now table) ⌝ }
 {
@@ -82,7 +69,11 @@ pub fn table(run: Run, table: &[u64])
     requires { ⌜ run .used ≤ length (now table) ⌝ }
 {
     let space = run.space;
-    say_entries(space.page, entries_of(space.count, run.used), table);
+    say_entries(
+        space.page,
+        pieces::entries_within(space.count, run.used),
+        table,
+    );
     say::number(space.count);
     say::labelled(b" entries, end ", space.end);
     say::text(b"\n");

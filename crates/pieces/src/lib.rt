@@ -7,7 +7,7 @@ pub mod kind;
 
 ghost use mathlib.Core.Path.{_≡_};
 ghost use mathlib.Core.List.{[], _∷_};
-ghost use Prim.Native.Nat.{_+_, _*_, _≤_};
+ghost use Prim.Native.Nat.{_+_, _*_, _/_, _≤_, min};
 ghost use lib.ListN.{length};
 ghost use Rattle.pieces.specs.Pieces.{classOf, freeb, largeFreeb, kindOf, kindb, statusOf};
 ghost use Rattle.pieces.specs.Words.{entryWords, wordsAt, pieceOf, entryAt, laid};
@@ -45,6 +45,17 @@ const KIND_WORD: usize = 2;
 const LEAST_KIND: u64 = 1;
 
 const LARGEST_KIND: u64 = 6;
+
+// How many entries to look at where a state counts so many and so many words are lent: those that it counts, as far as the words reach.
+pub fn entries_within(count: u64, words: usize) -> usize
+    ensures { λ r. ⌜ r ≡ min count (words / entryWords) ⌝ }
+{
+    let most = words / ENTRY_WORDS;
+    if (most as u64) < count {
+        return most;
+    }
+    count as usize
+}
 
 pub fn class_of(status: Status) -> Class
     ensures { λ r. ⌜ r ≡ classOf status ⌝ }

@@ -5,7 +5,6 @@ ghost use Rattle.pieces.specs.Words.{entryWords};
 use crate::text::say;
 use crate::text::say_nth;
 use crate::text::say_number;
-use pieces::ENTRY_WORDS;
 
 // 0 is no kind, and document 01 has six.
 const KINDS: u64 = 7;
@@ -40,20 +39,9 @@ fn say_entry(table: &[u64], i: usize)
     say(b"\n");
 }
 
-// How many of n entries a slice of words has.
-fn entries_in(n: u64, words: usize) -> usize
-    ensures { λ r. ⌜ r * entryWords ≤ words ⌝ }
-{
-    let most = words / ENTRY_WORDS;
-    if (most as u64) < n {
-        return most;
-    }
-    n as usize
-}
-
 // The first n entries, or as many as there are.
 pub fn say_table(table: &[u64], n: u64) {
-    let count = entries_in(n, table.len());
+    let count = pieces::entries_within(n, table.len());
     let mut i: usize = 0;
     while i < count {
         say_entry(table, i);

@@ -7,10 +7,10 @@ use Rattle.bench.proofs.asked.Statement.{statement}
 use Rattle.bench.proofs.asked.Tie as tie
 
 abbrev Inv-loop : tie.InvT-loop
-Inv-loop text entries₀ turns₀ behind₀ i₀ entries turns behind i = Unit {0}
+Inv-loop text wish₀ which₀ i₀ wish which i = Unit {0}
 
 abbrev μ-loop : tie.MeasureT-loop
-μ-loop text entries₀ turns₀ behind₀ i₀ entries turns behind i = length text - i
+μ-loop text wish₀ which₀ i₀ wish which i = length text - i
 
 loop-holds : tie.Need-loop-holds Inv-loop μ-loop
 loop-holds c = tt
@@ -18,11 +18,11 @@ loop-holds c = tt
 shared-slice-read-byte : tie.Need-shared-slice-read-byte Inv-loop μ-loop
 shared-slice-read-byte c = search needs
 
-with-digit-requires : tie.Need-with-digit-requires Inv-loop μ-loop
-with-digit-requires c κs = search needs
+wrapping-add-u64-requires : tie.Need-wrapping-add-u64-requires Inv-loop μ-loop
+wrapping-add-u64-requires c κs = search needs
 
-with-digit-requires-2 : tie.Need-with-digit-requires-2 Inv-loop μ-loop
-with-digit-requires-2 c κs = search needs
+wished-requires : tie.Need-wished-requires Inv-loop μ-loop
+wished-requires c κs = search needs
 
 add-i : tie.Need-add-i Inv-loop μ-loop
 add-i c = search needs
@@ -44,8 +44,8 @@ asked-spec =
     μ-loop
     loop-holds
     shared-slice-read-byte
-    with-digit-requires
-    with-digit-requires-2
+    wrapping-add-u64-requires
+    wished-requires
     add-i
     loop-less
     loop-again

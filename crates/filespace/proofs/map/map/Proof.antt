@@ -22,8 +22,8 @@ text-requires c κs = search needs
 returns : tie.Need-returns
 returns c = search needs
 
-entries-of-requires : tie.Need-entries-of-requires
-entries-of-requires c κs = search needs
+entries-within-requires : tie.Need-entries-within-requires
+entries-within-requires c κs = search needs
 
 say-rows-requires : tie.Need-say-rows-requires
 say-rows-requires c κs =
@@ -47,7 +47,7 @@ map-spec =
     slice-aggregate-text
     text-requires
     returns
-    entries-of-requires
+    entries-within-requires
     say-rows-requires
     say-legend-requires
     returns-2)

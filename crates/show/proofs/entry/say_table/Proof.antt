@@ -1,4 +1,4 @@
--- Each entry that is said lies within the slice, by what `entries_in` ensures.
+-- Each entry that is said lies within the slice, since those that are counted are taken only as far as it reaches.
 -- Assumes nothing.
 use Prim.Native.Nat.{_≤_, _-_}
 use native.Mathlib.Omega.{arith}
@@ -12,14 +12,14 @@ Inv-loop table n count i₀ i = i ≤ count
 abbrev μ-loop : tie.MeasureT-loop
 μ-loop table n count i₀ i = count - i
 
-entries-in-requires : tie.Need-entries-in-requires Inv-loop μ-loop
-entries-in-requires c κs = search needs
+entries-within-requires : tie.Need-entries-within-requires Inv-loop μ-loop
+entries-within-requires c κs = search needs
 
 loop-holds : tie.Need-loop-holds Inv-loop μ-loop
 loop-holds c = search needs
 
 say-entry-requires : tie.Need-say-entry-requires Inv-loop μ-loop
-say-entry-requires c κs = omega (arith, c .before .before .entries-in .ensures)
+say-entry-requires c κs = omega (arith, c .before .before .entries-within .ensures)
 
 add-i : tie.Need-add-i Inv-loop μ-loop
 add-i c = search needs
@@ -39,7 +39,7 @@ say-table-spec =
     (tie.spec
     Inv-loop
     μ-loop
-    entries-in-requires
+    entries-within-requires
     loop-holds
     say-entry-requires
     add-i
