@@ -1,7 +1,7 @@
 -- Laws of the walk: the tests by what is left of the page are those of `table`, and one turn of the loop is one step of the local test.
 --
 -- In this order: the tests by what is left; one step; one entry, rule by rule; a turn of the loop, for the kinds and the chain together; the
--- words behind; the ranges; the whole test, part by part.
+-- ranges; the whole test, part by part.
 --
 -- Assumes nothing.
 use Prim.Native.Nat.{ℕ, suc, _+_, _-_, _*_, _%_, _≤_, _<_}
@@ -11,8 +11,7 @@ use mathlib.Core.Path.{_≡_, refl, sym, ap, _∙_}
 use native.Mathlib.Numerals.{add-one}
 use native.Mathlib.Omega.{arith}
 use lib.Dec.{leb, eqb}
-use lib.ListN.{length, getD, drop, drop-of-length-le}
-use lib.Seq.{drop-cons}
+use lib.ListN.{length, drop}
 use borrow.Author.Tests.{le-leb, lt-leb, lt-ltb, le-ltb, eq-eqb, ne-eqb}
 use Rattle.pages.proofs.Numbers.{split, leb-same, and-false, not-both}
 use Rattle.pages.proofs.PageLaws.{decBorder, true-border, false-border, left-down, left-of, left-full, left-within, left-exact, left-beyond}
@@ -290,20 +289,6 @@ module _ (P E : ℕ) (w : List ℕ) (n i : ℕ) (v : Walk) (u : Words) (h : i < 
 
   pub turn-no-kind : kindb (u .kind) ≡ false → rest P E w n i (statusOf (v .kind)) (v .at) ≡ false
   turn-no-kind k = rest-no-kind P E w n i (statusOf (v .kind)) (v .at) u is h k
-
--- ---- the words behind
-
-pub zeros-next : (w : List ℕ) (i : ℕ) → i < length w → getD w i 0 ≡ 0 → zerosb (drop i w) ≡ zerosb (drop (i + 1) w)
-unfolding zerosb
-zeros-next w i lt e = rw (add-one, drop-cons w i 0 lt, e)
-
-pub zeros-stop : (w : List ℕ) (i : ℕ) → i < length w → (getD w i 0 ≡ 0 → ⊥) → zerosb (drop i w) ≡ false
-unfolding zerosb
-zeros-stop w i lt ne = rw (drop-cons w i 0 lt, ne-eqb _ 0 ne)
-
-pub zeros-end : (w : List ℕ) (i : ℕ) → length w ≤ i → zerosb (drop i w) ≡ true
-unfolding zerosb
-zeros-end w i le = rw (drop-of-length-le w {i = i} le)
 
 -- ---- the ranges, up to the first that fails
 

@@ -3,12 +3,14 @@
 pub mod walk;
 
 ghost use mathlib.Core.Path.{_≡_};
-ghost use Prim.Native.Nat.{_*_, _≤_, _<_};
+ghost use Prim.Native.Nat.{_+_, _*_, _≤_, _<_};
 ghost use mathlib.Core.Bool.{_&&_};
-ghost use lib.ListN.{length, drop};
+ghost use lib.Dec.{eqb};
+ghost use lib.ListN.{length, take, drop};
 ghost use Rattle.pieces.specs.declared.Class.the-variants.{Large};
 ghost use Rattle.pieces.specs.declared.Status.the-variants.{Live};
 ghost use Rattle.pieces.specs.Words.{entryWords, entries};
+ghost use Rattle.sound.specs.Zeros.{zeroBlock};
 ghost use Rattle.table.specs.Local.{tableLengthb, rangesb, kindsb, zerosb, chainb, localb};
 use pieces::ENTRY_WORDS;
 
@@ -17,6 +19,9 @@ pub const LARGEST_LIMIT: u64 = 4611686018427387904;
 pub const LEAST_CAPACITY: usize = 4;
 
 pub const LARGEST_CAPACITY: usize = 1024;
+
+// The words behind the entries are looked at by blocks: the compiler makes vectors of a loop that has a fixed number of turns and leaves at its end.
+const BLOCK: usize = 48 * ENTRY_WORDS;
 
 // Whether a lent slice may have so many words.
 pub fn is_table_length(len: usize) -> bool
@@ -77,18 +82,46 @@ pub fn entries_hold(page: u64, end: u64, n: usize, table: &[u64]) -> bool
     walk.at == end
 }
 
-// Whether every word from `from` on is 0.
+// The bits that any word of the block from `from` on has.
+fn block_bits(from: usize, table: &[u64]) -> u64
+    requires { ⌜ from + zeroBlock ≤ length (now table) ⌝ }
+    ensures { λ r. ⌜ eqb r 0 ≡ zerosb (take zeroBlock (drop from (now (table .entry)))) ⌝ }
+{
+    let mut bits: u64 = 0;
+    let mut j: usize = 0;
+    while j < BLOCK {
+        bits = bits | table[from + j];
+        j = j + 1;
+    }
+    bits
+}
+
+// The bits that any word from `from` on has.
+fn rest_bits(from: usize, table: &[u64]) -> u64
+    ensures { λ r. ⌜ eqb r 0 ≡ zerosb (drop from (now (table .entry))) ⌝ }
+{
+    let mut bits: u64 = 0;
+    let mut i = from;
+    while i < table.len() {
+        bits = bits | table[i];
+        i = i + 1;
+    }
+    bits
+}
+
+// Whether every word from `from` on is 0: by blocks while a whole one is left, then the rest.
 pub fn zeros_from(from: usize, table: &[u64]) -> bool
+    requires { ⌜ from ≤ length (now table) ⌝ }
     ensures { λ r. ⌜ r ≡ zerosb (drop from (now (table .entry))) ⌝ }
 {
     let mut i = from;
-    while i < table.len() {
-        if table[i] != 0 {
+    while BLOCK <= table.len() - i {
+        if block_bits(i, table) != 0 {
             return false;
         }
-        i = i + 1;
+        i = i + BLOCK;
     }
-    true
+    rest_bits(i, table) == 0
 }
 
 // Whether the state and the table are sound together.

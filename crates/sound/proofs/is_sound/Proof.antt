@@ -34,7 +34,9 @@ mul-zeros-from c =
     omega (arith, count-fits ranges, ranges .slice .largest)
 
 zeros-from-requires : tie.Need-zeros-from-requires
-zeros-from-requires c κs = search needs
+zeros-from-requires c κs =
+    let ranges = ranges-true _ _ _ _ _ (passes (c .before .before .before .in-ranges .ensures) (c .before .before .if1 .left)) in
+    count-fits ranges
 
 returns-3 : tie.Need-returns-3
 returns-3 c =
