@@ -82,6 +82,14 @@ kind-low k h = rw (lt-leb 1 k h)
 pub kind-high : (k : ℕ) → 1 ≤ k → kindb k ≡ leb k 6
 kind-high k h = rw (le-leb 1 k h)
 
+pub kind-of : (s : Status) → Kind (kindOf s)
+kind-of (Live SmallMetadata) = record { least = omega arith; largest = omega arith }
+kind-of (Live SmallRaw) = record { least = omega arith; largest = omega arith }
+kind-of (Live Large) = record { least = omega arith; largest = omega arith }
+kind-of (Free SmallMetadata) = record { least = omega arith; largest = omega arith }
+kind-of (Free SmallRaw) = record { least = omega arith; largest = omega arith }
+kind-of (Free Large) = record { least = omega arith; largest = omega arith }
+
 pub kind-live : {s : Status} {k c : Class} → s ≡ Live k → k ≡ c → kindOf s ≡ kindOf (Live c)
 kind-live e f = ap kindOf e ∙ ap (λ (m : Class). kindOf (Live m)) f
 

@@ -13,13 +13,10 @@ use native.Mathlib.Omega.{arith}
 use lib.ListN.{length, getD, take, drop, set, replicate}
 use lib.ListN.{length-append, length-replicate, length-take, length-drop, take-append-drop, getD-replicate}
 use lib.Seq.{drop-cons, ext-getD, getD-drop, take-at, drop-at, drop-drop, sets-eq, length-take-le, take-suc, getD-append-add}
-use Rattle.pieces.proofs.PieceLaws.{status-kind, kind-status}
+use Rattle.pieces.proofs.PieceLaws.{kind-of, status-kind, kind-status}
 use Rattle.pieces.specs.Pieces.{kindOf, Kind, EntryIs, entry-here, entry-later}
 use Rattle.pieces.specs.Words.{entryWords, kindAt, wordsAt, pieceOf, entryAt, entries, words, table, laid, Zeros, EntriesOfTable, TableOfEntries}
-use Rattle.pieces.specs.declared.Class.the-variants.{SmallMetadata, SmallRaw, Large}
 use Rattle.pieces.specs.declared.Piece.{Piece}
-use Rattle.pieces.specs.declared.Status.the-variants.{Live, Free}
-use Rattle.pieces.specs.declared.Status.{Status}
 use Rattle.pieces.specs.declared.Words.{Words}
 
 -- ---- lengths
@@ -177,14 +174,6 @@ table-of-entries w n l h z =
     rw (e, c, ← (zeros-replicate w n z)) (take-append-drop (n * entryWords) w)
 
 -- ---- what a table holds
-
-kind-of : (s : Status) → Kind (kindOf s)
-kind-of (Live SmallMetadata) = record { least = omega arith; largest = omega arith }
-kind-of (Live SmallRaw) = record { least = omega arith; largest = omega arith }
-kind-of (Live Large) = record { least = omega arith; largest = omega arith }
-kind-of (Free SmallMetadata) = record { least = omega arith; largest = omega arith }
-kind-of (Free SmallRaw) = record { least = omega arith; largest = omega arith }
-kind-of (Free Large) = record { least = omega arith; largest = omega arith }
 
 shift-kind : (x y z : ℕ) (w : List ℕ) (i : ℕ) → kindAt (x ∷ y ∷ z ∷ w) (suc i) ≡ kindAt w i
 shift-kind x y z w i = let e : suc i * entryWords + 2 ≡ suc (suc (suc (i * entryWords + 2))) = omega arith in rw e

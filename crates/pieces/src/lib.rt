@@ -1,5 +1,5 @@
 // A piece with its status, and the words of a lent table that say one. This crate alone knows how many words an entry has and which is which,
-// and what numbers the kinds are.
+// and what numbers the kinds are; only the packed number of `sound` has a bit for each kind too.
 //
 //     word    | i * 3    | i * 3 + 1 | i * 3 + 2
 //     entry i | address  | size      | kind
@@ -42,9 +42,13 @@ const SIZE_WORD: usize = 1;
 
 const KIND_WORD: usize = 2;
 
+pub const LIVE_LARGE: u64 = 3;
+
+pub const FREE_LARGE: u64 = 6;
+
 const LEAST_KIND: u64 = 1;
 
-const LARGEST_KIND: u64 = 6;
+const LARGEST_KIND: u64 = FREE_LARGE;
 
 // How many entries to look at where a state counts so many and so many words are lent: those that it counts, as far as the words reach.
 pub fn entries_within(count: u64, words: usize) -> usize
@@ -97,12 +101,12 @@ pub fn kind_of(status: Status) -> u64
         Status::Live(c) => match c {
             Class::SmallMetadata => 1,
             Class::SmallRaw => 2,
-            Class::Large => 3,
+            Class::Large => LIVE_LARGE,
         },
         Status::Free(c) => match c {
             Class::SmallMetadata => 4,
             Class::SmallRaw => 5,
-            Class::Large => 6,
+            Class::Large => FREE_LARGE,
         },
     }
 }

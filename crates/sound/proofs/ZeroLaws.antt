@@ -4,7 +4,7 @@
 --
 -- Assumes nothing.
 use Prim.Native.Nat.{ℕ, suc, _+_, _-_, _≤_, _<_}
-use mathlib.Core.Bool.{Bool, true, false, _&&_}
+use mathlib.Core.Bool.{Bool, true, false, _&&_, and-true, and-assoc}
 use mathlib.Core.List.{List, [], _∷_, _++_}
 use mathlib.Core.Path.{_≡_, refl, sym, ap, _∙_}
 use native.Mathlib.Numerals.{add-one}
@@ -25,14 +25,6 @@ or-none a b = go (eqb a 0) refl
     go : (t : Bool) → eqb a 0 ≡ t → eqb (bitOr a b) 0 ≡ (t && eqb b 0)
     go true e = ap (λ (v : ℕ). eqb v 0) (ap (λ (v : ℕ). bitOr v b) (eqb-true a 0 e) ∙ or-zero-l b)
     go false e = ne-eqb (bitOr a b) 0 (λ z. eqb-false a 0 e (omega (arith, or-add-and a b, and-le-r a b)))
-
-and-assoc : (s t u : Bool) → ((s && t) && u) ≡ (s && (t && u))
-and-assoc true t u = refl
-and-assoc false t u = refl
-
-and-true : (t : Bool) → (t && true) ≡ t
-and-true true = refl
-and-true false = refl
 
 -- ---- one word more: the bits of the words before it, and what is still to be tested from it on
 

@@ -1,15 +1,17 @@
 // Whether a state and a lent table are sound together: the ranges, one pass over the entries that refuses at the first break of a local
-// rule, and the zero words behind them. Any four numbers and any slice get an answer, and no sum can overflow.
+// rule and asks at its end whether it came to E, and the zero words behind them. Any four numbers and any slice get an answer, and no sum can
+// overflow.
 pub mod walk;
 
 ghost use mathlib.Core.Path.{_≡_};
-ghost use Prim.Native.Nat.{_+_, _*_, _≤_, _<_};
+ghost use Prim.Native.Nat.{_+_, _≤_};
 ghost use mathlib.Core.Bool.{_&&_};
 ghost use lib.Dec.{eqb};
 ghost use lib.ListN.{length, take, drop};
 ghost use Rattle.pieces.specs.declared.Class.the-variants.{Large};
 ghost use Rattle.pieces.specs.declared.Status.the-variants.{Live};
-ghost use Rattle.pieces.specs.Words.{entryWords, entries};
+ghost use Rattle.pieces.specs.Words.{entries};
+ghost use Rattle.sound.specs.Walk.{WalkFits};
 ghost use Rattle.sound.specs.Zeros.{zeroBlock};
 ghost use Rattle.table.specs.Local.{tableLengthb, rangesb, kindsb, zerosb, chainb, localb};
 use pieces::ENTRY_WORDS;
@@ -61,18 +63,15 @@ pub fn in_ranges(page: u64, limit: u64, end: u64, count: u64, len: usize) -> boo
     count <= (len / ENTRY_WORDS) as u64
 }
 
-// The entries: every kind is one, and each entry keeps the rules behind the one before it.
+// The entries: every kind is one, each entry keeps the rules behind the one before it, and the last ends at the end.
 pub fn entries_hold(page: u64, end: u64, n: usize, table: &[u64]) -> bool
-    requires { ⌜ (0 < page) × (n * entryWords ≤ length (now table)) ⌝ }
+    requires { ⌜ WalkFits page end n (now table) ⌝ }
     ensures { λ r. ⌜ r ≡ (kindsb (now (table .entry)) 0 n && chainb page end (Live Large) 0 (entries (now (table .entry)) 0 n)) ⌝ }
 {
     let mut walk = walk::start(page);
     let mut i: usize = 0;
     while i < n {
         let entry = pieces::words_at(table, i);
-        if !pieces::is_kind(entry.kind) {
-            return false;
-        }
         let walk::Step::On(next) = walk::advance(page, end, walk, entry, i + 1 == n) else {
             return false;
         };

@@ -4,8 +4,8 @@ use mathlib.Core.Path.{sym, _∙_}
 use borrow.Author.Needs.{needs}
 use Rattle.pages.proofs.Numbers.{passes, fails}
 use Rattle.pages.proofs.PageLaws.{page-size-true, page-pos}
-use Rattle.sound.proofs.WalkLaws.{ranges-page, ranges-limit-least, ranges-limit-largest}
-use Rattle.sound.proofs.WalkLaws.{ranges-end-border, ranges-end-limit, ranges-slice}
+use Rattle.sound.proofs.PartLaws.{ranges-page, ranges-limit-least, ranges-limit-largest}
+use Rattle.sound.proofs.PartLaws.{ranges-end-border, ranges-end-limit, ranges-slice}
 use Rattle.sound.proofs.in_ranges.Statement.{statement}
 use Rattle.sound.proofs.in_ranges.Tie as tie
 

@@ -4,8 +4,7 @@ use mathlib.Core.Path.{sym, _∙_}
 use native.Mathlib.Omega.{arith}
 use borrow.Author.Needs.{needs}
 use Rattle.pages.proofs.Numbers.{passes, fails}
-use Rattle.pages.proofs.PageLaws.{page-pos}
-use Rattle.sound.proofs.WalkLaws.{local-ranges, local-entries, local-zeros}
+use Rattle.sound.proofs.PartLaws.{local-ranges, local-entries, local-zeros}
 use Rattle.table.proofs.LocalLaws.{ranges-true}
 use Rattle.table.proofs.Theorems.{count-fits}
 use Rattle.sound.proofs.is_sound.Statement.{statement}
@@ -20,7 +19,12 @@ returns c = sym (local-ranges _ _ _ _ _ (fails (c .before .in-ranges .ensures) (
 entries-hold-requires : tie.Need-entries-hold-requires
 entries-hold-requires c κs =
     let ranges = ranges-true _ _ _ _ _ (passes (c .before .in-ranges .ensures) (c .if1 .left)) in
-    (page-pos (ranges .page), count-fits ranges)
+    record {
+      page = ranges .page;
+      end = omega (arith, ranges .end-limit, ranges .limit-largest);
+      count = omega (arith, count-fits ranges, ranges .slice .largest);
+      fits = count-fits ranges;
+    }
 
 returns-2 : tie.Need-returns-2
 returns-2 c =

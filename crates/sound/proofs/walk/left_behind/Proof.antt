@@ -5,7 +5,7 @@ use mathlib.Core.Path.{sym}
 use native.Mathlib.Nat.{mod-lt}
 use native.Mathlib.Omega.{arith}
 use borrow.Author.Needs.{needs}
-use Rattle.sound.proofs.WalkLaws.{behind-within, behind-exact, behind-beyond}
+use Rattle.sound.proofs.StepLaws.{behind-within, behind-exact, behind-beyond}
 use Rattle.sound.proofs.walk.left_behind.Statement.{statement}
 use Rattle.sound.proofs.walk.left_behind.Tie as tie
 
