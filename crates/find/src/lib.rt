@@ -5,6 +5,7 @@ ghost use lib.ListN.{length};
 ghost use Rattle.pieces.specs.Words.{entryWords, entries};
 ghost use Rattle.find.specs.Find.{namedb, findLive};
 use pieces::Piece;
+use pieces::address_at;
 use pieces::is_free;
 use pieces::piece_at;
 
@@ -13,7 +14,7 @@ pub enum Found {
     Missing,
 }
 
-// Whether this is the named piece. Nearly every entry fails at the address, so that is compared first.
+// Whether this is the named piece.
 fn is_named(address: u64, size: u64, piece: Piece) -> bool
     ensures { λ r. ⌜ r ≡ namedb address size piece ⌝ }
 {
@@ -34,9 +35,12 @@ pub fn find(address: u64, size: u64, n: usize, table: &[u64]) -> Found
 {
     let mut i: usize = 0;
     while i < n {
-        let piece = piece_at(table, i);
-        if is_named(address, size, piece) {
-            return Found::At(i, piece);
+        // Nearly every entry has another address, so that word is read alone.
+        if address_at(table, i) == address {
+            let piece = piece_at(table, i);
+            if is_named(address, size, piece) {
+                return Found::At(i, piece);
+            }
         }
         i = i + 1;
     }

@@ -148,6 +148,14 @@ pub fn words_at(table: &[u64], i: usize) -> Words
     }
 }
 
+// The address of entry i: one word, for a walk that looks at the rest where this is the one it seeks.
+pub fn address_at(table: &[u64], i: usize) -> u64
+    requires { ⌜ (i + 1) * entryWords ≤ length (now table) ⌝ }
+    ensures { λ r. ⌜ r ≡ entryAt (now (table .entry)) i .address ⌝ }
+{
+    table[i * ENTRY_WORDS]
+}
+
 // The piece that three words say.
 pub fn piece_of(words: Words) -> Piece
     ensures { λ r. ⌜ r ≡ pieceOf words ⌝ }

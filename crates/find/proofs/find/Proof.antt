@@ -1,12 +1,16 @@
--- `find::find` meets its contract: what the walk finds from entry i on is what it finds from the first, as the entries passed are not named.
+-- `find::find` meets its contract: what the walk finds from entry i on is what it finds from the first, as the entries passed are not named,
+-- most of them by their address alone.
 -- Assumes nothing.
 use Prim.Native.Nat.{_≤_, _-_}
-use mathlib.Core.Path.{_≡_, sym, _∙_}
+use mathlib.Core.Bool.{false}
+use mathlib.Core.Logic.{⊎-elim}
+use mathlib.Core.Path.{_≡_, refl, sym, ap, _∙_}
 use native.Mathlib.Nat.{sub-zero}
 use borrow.Author.Needs.{needs}
-use Rattle.find.proofs.FindLaws.{find-next, find-here, find-end}
-use Rattle.find.specs.Find.{findLive}
-use Rattle.pieces.specs.Words.{entries}
+use Rattle.find.proofs.FindLaws.{other-address, find-next, find-here, find-end}
+use Rattle.find.specs.Find.{namedb, findLive}
+use Rattle.pieces.specs.Words.{entryAt, entries}
+use Rattle.pieces.specs.declared.Piece.{Piece}
 use Rattle.find.proofs.find.Statement.{statement}
 use Rattle.find.proofs.find.Tie as tie
 
@@ -20,6 +24,9 @@ abbrev μ-loop : tie.MeasureT-loop
 loop-holds : tie.Need-loop-holds Inv-loop μ-loop
 loop-holds c = (search needs, rw (sub-zero (c .before .args .n)))
 
+address-at-requires : tie.Need-address-at-requires Inv-loop μ-loop
+address-at-requires c κs = search needs
+
 piece-at-requires : tie.Need-piece-at-requires Inv-loop μ-loop
 piece-at-requires c κs = search needs
 
@@ -28,12 +35,12 @@ is-named-requires c κs = search needs
 
 returns : tie.Need-returns Inv-loop μ-loop
 returns c =
-    let a = c .before .before .before .before .before .before .args in
-    let l = c .before .before .before .before .loop in
-    let among = c .before .before .before .loop-test .taken in
-    let read = c .before .before .piece-at .ensures in
-    let named = sym (c .before .is-named .ensures) ∙ c .if1 .taken in
-    sym (find-here (a .address) (a .size) (a .table .now) (a .n) (l .i) _ among read named)
+    let start = c .before .before .before .before .before .before .before .before in
+    let a = start .args in
+    let l = c .before .before .before .before .before .before .loop in
+    let among = c .before .before .before .before .before .loop-test .taken in
+    let named = sym (c .before .is-named .ensures) ∙ c .if2 .taken in
+    sym (find-here (a .address) (a .size) (a .table .now) (a .n) (l .i) _ among (c .before .before .piece-at .ensures) named)
     ∙ l .inv .1
 
 add-i : tie.Need-add-i Inv-loop μ-loop
@@ -44,13 +51,15 @@ loop-less c = search needs
 
 loop-again : tie.Need-loop-again Inv-loop μ-loop
 loop-again c =
-    let a = c .before .before .before .before .before .before .args in
-    let l = c .before .before .before .before .loop in
-    let among = c .before .before .before .loop-test .taken in
-    let read = c .before .before .piece-at .ensures in
-    let other = sym (c .before .is-named .ensures) ∙ c .if1 .left in (
+    let a = c .before .before .before .before .before .args in
+    let l = c .before .before .before .loop in
+    let x : Piece = entryAt (a .table .now) (l .i) in
+    let read = c .before .address-at .ensures in
+    let other : namedb (a .address) (a .size) x ≡ false =
+    ⊎-elim (λ w. ap (namedb (a .address) (a .size)) (sym (w .1 .ensures)) ∙ (sym (w .2 .ensures) ∙ w .3 .left))
+    (λ w. other-address (a .address) (a .size) x (λ e. w .left (read ∙ e))) (c .if1 .came) in (
       search needs,
-      sym (find-next (a .address) (a .size) (a .table .now) (a .n) (l .i) _ among read other)
+      sym (find-next (a .address) (a .size) (a .table .now) (a .n) (l .i) x (c .before .before .loop-test .taken) refl other)
           ∙ l .inv .1,
     )
 
@@ -67,6 +76,7 @@ find-spec =
     Inv-loop
     μ-loop
     loop-holds
+    address-at-requires
     piece-at-requires
     is-named-requires
     returns
