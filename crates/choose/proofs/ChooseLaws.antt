@@ -9,7 +9,7 @@ use mathlib.Core.Bool.{Bool, true, false, and-false}
 use mathlib.Core.List.{List, [], _∷_}
 use Prim.Native.Nat.{ℕ, _+_, _-_, _≤_, _<_}
 use native.Mathlib.Omega.{arith}
-use lib.Dec.{leb, ltb}
+use lib.Dec.{leb}
 use borrow.Author.Tests.{leb-true, le-leb, lt-leb, le-ltb}
 use Rattle.pages.specs.Pages.{up, upFrom}
 use Rattle.pages.proofs.Numbers.{leb-same, and-right}
@@ -70,9 +70,6 @@ module _ (P : ℕ) (k : Class) (s : ℕ) (x : Piece) where
       room-least P pos s (x .address) (x .size) k (and-right (freeOf k (x .status)) (roomIn P k s (x .address) (x .size)) e)
 
 -- ---- the walk
-
-pub better-held : (z : ℕ) (b : Chosen) {i : ℕ} {x : Piece} → b ≡ At i x → better z b ≡ ltb z (x .size)
-better-held z b e = rw e
 
 module _ (fits : Piece → Bool) (i : ℕ) (b : Chosen) (x : Piece) where
   pub best-of-better : fits x ≡ true → better (x .size) b ≡ true → bestOf fits i b x ≡ At i x

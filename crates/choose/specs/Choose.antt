@@ -18,6 +18,7 @@
 --   SmallPlace, LargePlace the walk with fitsIn finds the best place by these
 --
 -- Assumes nothing. `BestPlace`, `SmallPlace` and `LargePlace` are proved in proofs/BestLaws.antt; laws of the walk are in proofs/ChooseLaws.antt.
+-- The numbers that the code's walk holds are in Walk.antt.
 use mathlib.Core.Path.{_≡_}
 use mathlib.Core.Bool.{Bool, true, cond, _&&_}
 use mathlib.Core.List.{List, [], _∷_, List·Memᴰ}

@@ -1,9 +1,8 @@
 // Where a piece goes, and how that place was found.
 ghost use mathlib.Core.Path.{_≡_};
-ghost use Prim.Native.Nat.{_*_, _≤_, _<_};
-ghost use lib.ListN.{length};
-ghost use Rattle.pieces.specs.Words.{entryWords, entries, EndsFit};
+ghost use Rattle.pieces.specs.Words.{entries, EndsFit};
 ghost use Rattle.choose.specs.Place.{asPage, largePlaceFor, smallPlaceFor, placeFor, atEndb, placeAddress, placeEntry};
+ghost use Rattle.choose.specs.Walk.{ChooseFits};
 use crate::Chosen;
 use crate::best_place;
 use pieces::Class;
@@ -19,7 +18,7 @@ pub enum Place {
 
 // The place of a large piece: the first border in the best free large entry, or the end.
 fn large_place_for(p: u64, s: u64, n: usize, table: &[u64]) -> Place
-    requires { ⌜ ((0 < p) × (n * entryWords ≤ length (now table))) × EndsFit (now table) n ⌝ }
+    requires { ⌜ ChooseFits p (now table) n × EndsFit (now table) n ⌝ }
     ensures { λ r. ⌜ r ≡ largePlaceFor p s (entries (now (table .entry)) 0 n) ⌝ }
 {
     let Chosen::At(i, piece) = best_place(p, Class::Large, s, n, table) else {
@@ -41,7 +40,7 @@ fn as_page(place: Place) -> Place
 
 // The place of a small piece: the start of the best free small entry of its class, or a page by the large rule.
 fn small_place_for(p: u64, class: Class, s: u64, n: usize, table: &[u64]) -> Place
-    requires { ⌜ ((0 < p) × (n * entryWords ≤ length (now table))) × EndsFit (now table) n ⌝ }
+    requires { ⌜ ChooseFits p (now table) n × EndsFit (now table) n ⌝ }
     ensures { λ r. ⌜ r ≡ smallPlaceFor p class s (entries (now (table .entry)) 0 n) ⌝ }
 {
     let Chosen::At(i, piece) = best_place(p, class, s, n, table) else {
@@ -52,7 +51,7 @@ fn small_place_for(p: u64, class: Class, s: u64, n: usize, table: &[u64]) -> Pla
 
 // The place for s bytes of a class.
 pub fn place_for(p: u64, class: Class, s: u64, n: usize, table: &[u64]) -> Place
-    requires { ⌜ ((0 < p) × (n * entryWords ≤ length (now table))) × EndsFit (now table) n ⌝ }
+    requires { ⌜ ChooseFits p (now table) n × EndsFit (now table) n ⌝ }
     ensures { λ r. ⌜ r ≡ placeFor p class s (entries (now (table .entry)) 0 n) ⌝ }
 {
     match class {

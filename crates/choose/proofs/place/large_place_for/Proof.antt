@@ -20,7 +20,7 @@ returns : tie.Need-returns
 returns c =
     let start = c .before .before .before .before in
     let a = start .args in
-    large-end (a .p) (start .pre .0 .0) (a .s) (a .table .now) (a .n) _ (c .before .before .best-place .ensures) (c .enum-told .given .1)
+    large-end (a .p) (start .pre .0 .page) (a .s) (a .table .now) (a .n) _ (c .before .before .best-place .ensures) (c .enum-told .given .1)
 
 up-from-requires : tie.Need-up-from-requires
 up-from-requires c κs = search needs
@@ -30,7 +30,7 @@ add-t10 c =
     let start = c .before .before .before .before .before .before .before in
     let a = start .args in
     let found = c .before .before .before .before .before .best-place .ensures in
-    let fits = border-fits (a .p) (start .pre .0 .0) (a .s) (a .table .now) (a .n) _ found (start .pre .1) _ _ (c .before .before .before .i .given .1) in
+    let fits = border-fits (a .p) (start .pre .0 .page) (a .s) (a .table .now) (a .n) _ found (start .pre .1) _ _ (c .before .before .before .i .given .1) in
     omega (arith, c .before .up-from .ensures, fits)
 
 returns-2 : tie.Need-returns-2
@@ -39,7 +39,7 @@ returns-2 c =
     let a = start .args in
     let found = c .before .before .before .before .before .best-place .ensures in
     let at = c .before .before .before .i .given .1 in
-    large-section (a .p) (start .pre .0 .0) (a .s) (a .table .now) (a .n) _ found _ _ _ at (c .before .up-from .ensures)
+    large-section (a .p) (start .pre .0 .page) (a .s) (a .table .now) (a .n) _ found _ _ _ at (c .before .up-from .ensures)
 
 pub large-place-for-spec : {M : Type 1} → statement M
 large-place-for-spec =

@@ -1,9 +1,8 @@
 -- `space::Space::allocate_sound` meets its contract: refusals 3 and 4, and then the piece goes to the place of its class and size.
 -- Assumes nothing.
+use Rattle.choose.proofs.WalkLaws.{choose-fits}
 use Rattle.pages.proofs.Numbers.{passes, fails}
-use Rattle.pages.proofs.PageLaws.{page-pos}
 use Rattle.space.proofs.PlaceLaws.{allocated-unknown, allocated-zero, allocated-placed, place-fits}
-use Rattle.table.proofs.Theorems.{count-fits}
 use Rattle.table.proofs.TilingLaws.{ends-fit}
 use borrow.Author.Needs.{needs}
 use mathlib.Core.Path.{sym, _∙_}
@@ -31,7 +30,7 @@ place-for-requires : tie.Need-place-for-requires
 place-for-requires c κs =
     let s = c .before .before .before .before .before .before .pre in
     let r = s .ranges in
-    ((page-pos (r .page), count-fits r), ends-fit _ (s .rules .tiling) (omega (arith, r .end-limit, r .limit-largest)))
+    (choose-fits s, ends-fit _ (s .rules .tiling) (omega (arith, r .end-limit, r .limit-largest)))
 
 place-requires : tie.Need-place-requires
 place-requires c κs =
