@@ -1,6 +1,6 @@
 -- Laws of the splice.
 --
--- In this order: the entries behind the place moved up, moved down; the new ones laid over that; both together; `spliced-table` and
+-- In this order: the entries behind the place kept, moved up, moved down; the new ones laid over that; both together; `spliced-table` and
 -- `splice-replaces`, the statements SplicedTable and SpliceReplaces of specs/Edit.antt.
 --
 -- Not here: laws of the moves' loops (MoveLaws), of laid pieces (WordLaws of `pieces`). Assumes nothing.
@@ -8,7 +8,7 @@ use mathlib.Core.Path.{_≡_, refl, sym, _∙_}
 use mathlib.Core.List.{List, _++_, append-assoc}
 use Prim.Native.Nat.{ℕ, _+_, _-_, _*_, _≤_, _<_}
 use native.Mathlib.Omega.{arith}
-use lib.ListN.{length, take, drop, replicate, length-append, length-take, length-drop, length-replicate}
+use lib.ListN.{length, take, drop, replicate, take-append-drop, length-append, length-take, length-drop, length-replicate}
 use lib.Seq.{paste, take-at, drop-at, take-take, take-append-le, length-take-le}
 use Rattle.pieces.specs.declared.Piece.{Piece}
 use Rattle.pieces.specs.Words.{entryWords, words, table, laid}
@@ -18,6 +18,19 @@ use Rattle.edit.specs.Edit.{mostPieces, held}
 use Rattle.edit.specs.Edit.{spliced, SpliceFits, Spliced, shifted, ShiftFits, SplicedTable, SpliceReplaces}
 use Rattle.edit.proofs.FewLaws.{length-held}
 use Rattle.edit.proofs.MoveLaws.{up-moved, down-moved}
+
+-- entries that stay at their place: nothing is to be done
+pub shift-none : (w : List ℕ) (n a j : ℕ) → ShiftFits w n a j → a ≡ j → w ≡ shifted w n a j
+unfolding shifted
+shift-none w n a j fits same =
+    let from : ℕ = j * entryWords in
+    let end : ℕ = n * entryWords in
+    let e : (j + (n - j)) * entryWords ≡ end = omega (arith, fits .high) in
+    let front : take from w ≡ take from (take end w) = sym (take-take from end w (omega (arith, fits .high))) in
+    sym
+    (rw (same, e, ← zeros-replicate w n (fits .zeros), front)
+    (sym (append-assoc (take from (take end w)) (drop from (take end w)) (drop end w))
+    ∙ rw (take-append-drop from (take end w)) (take-append-drop end w)))
 
 module _ (w : List ℕ) (n a j : ℕ) (fits : ShiftFits w n a j) (x : List ℕ) where
   -- the same in words

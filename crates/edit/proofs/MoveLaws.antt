@@ -1,75 +1,114 @@
 -- Laws of the loops that move and clear words. What such a loop must do is `paste` of lib.Seq: some words in place of others.
 --
--- In this order: a turn of the copy downwards; the words while a copy upwards has k words to go (rising), and a turn of it; a turn of the
--- loop that clears; all words from a place up to the last that is in use moved up, moved down (moved).
+-- In this order: words loaded and then stored (stored) are a move; two pastes side by side; a move after a move, downwards and upwards; the words
+-- while a copy upwards has k words to go (rising), and a turn of it; a turn of the loop that clears; all words from a place up to the last
+-- that is in use moved up, moved down (moved).
 --
 -- Assumes nothing.
-use mathlib.Core.Path.{_≡_, sym, ap, _∙_}
-use mathlib.Core.List.{List, [], _∷_, _++_, append-assoc}
-use Prim.Native.Nat.{ℕ, suc, _+_, _-_, _≤_, _<_}
+use mathlib.Core.Path.{_≡_, refl, sym, ap, _∙_}
+use mathlib.Core.List.{List, _++_, append-assoc}
+use Prim.Native.Nat.{ℕ, zero, suc, _+_, _-_, _≤_, _<_}
 use native.Mathlib.Omega.{arith}
-use native.Mathlib.Nat.{add-zero, le-refl}
+use native.Mathlib.Nat.{add-zero, add-assoc, sub-zero, le-refl}
 use native.Mathlib.Numerals.{add-one}
-use lib.ListN.{length, take, drop, getD, set, replicate, length-take, length-drop, length-replicate, getD-replicate, List·getD-append}
-use lib.ListN.{take-append-drop, drop-of-length-le, replicate-append-replicate}
-use lib.Seq.{paste, paste-suc, take-paste, drop-paste, getD-drop, getD-take, take-suc, take-all, drop-cons, drop-drop, set-at}
-use lib.Seq.{append-snoc, length-take-le}
+use lib.ListN.{length, take, drop, getD, set, replicate, length-take, length-drop, length-replicate, getD-replicate}
+use lib.ListN.{replicate-append-replicate}
+use lib.Seq.{paste, paste-zero, paste-suc, take-paste, drop-paste, getD-drop, take-all, take-take, take-add, take-append-le, drop-drop, drop-at}
+use lib.Seq.{length-take-le, length-paste}
 use Rattle.edit.proofs.SliceLaws.{drop-replicate, part-front}
 
+-- ---- words loaded, then stored
+
+-- the words w with m of them, from `from` on, stored from `to` on one by one, as straight-line code leaves them
+abbrev pub stored : List ℕ → ℕ → ℕ → ℕ → List ℕ
+stored w to from zero = w
+stored w to from (suc zero) = set w to (getD w from 0)
+stored w to from (suc (suc k)) = set (stored w to from (suc k)) (to + suc k) (getD w (from + suc k) 0)
+
+pub stored-pasted : (w : List ℕ) (to from m : ℕ) → to + m ≤ length w → from + m ≤ length w → stored w to from m ≡ paste w to (drop from w) m
+stored-pasted w to from zero high end = paste-zero w to (drop from w)
+stored-pasted w to from (suc zero) high end =
+    let first : set (paste w to (drop from w) 0) (to + 0) (getD (drop from w) 0 0) ≡ paste w to (drop from w) 1 =
+    paste-suc w to (drop from w) 0 0 (omega arith) (rw length-drop (omega arith)) in
+    simp add-zero at (rw (← paste-zero w to (drop from w), getD-drop) at first)
+stored-pasted w to from (suc (suc k)) high end =
+    ap (λ (t : List ℕ). set t (to + suc k) (getD w (from + suc k) 0)) (stored-pasted w to from (suc k) (omega arith) (omega arith))
+    ∙ rw (← getD-drop from w (suc k) 0) (paste-suc w to (drop from w) (suc k) 0 (omega arith) (rw length-drop (omega arith)))
+
+-- ---- a paste beside a paste
+
+module _ (d : List ℕ) (at : ℕ) (s : List ℕ) (k : ℕ) (room : at + k ≤ length d) (enough : k ≤ length s) where
+  paste-take : (n : ℕ) → n ≤ at → take n (paste d at s k) ≡ take n d
+  paste-take n le =
+      ap (take n) (append-assoc (take at d) (take k s) (drop (at + k) d))
+      ∙ take-append-le n (take at d) (take k s ++ drop (at + k) d) (rw length-take (omega arith))
+      ∙ take-take n at d le
+
+  paste-drop : (m : ℕ) → drop (at + k + m) (paste d at s k) ≡ drop (at + k + m) d
+  paste-drop m =
+      sym (drop-drop m (at + k) (paste d at s k))
+      ∙ ap (drop m) (drop-paste d at s k (omega arith) enough)
+      ∙ drop-drop m (at + k) d
+
+-- two pastes side by side are one, in either order
+module _ (d : List ℕ) (at : ℕ) (s : List ℕ) (k m : ℕ) (room : at + (k + m) ≤ length d) (enough : k + m ≤ length s) where
+  paste-behind : paste (paste d at s k) (at + k) (drop k s) m ≡ paste d at s (k + m)
+  paste-behind =
+      rw (take-paste d at s k (omega arith) (omega arith), paste-drop d at s k (omega arith) (omega arith) m, take-add k m s, add-assoc at k m)
+      (simp append-assoc)
+
+  paste-before : paste (paste d (at + k) (drop k s) m) at s k ≡ paste d at s (k + m)
+  paste-before =
+      let p : List ℕ = take (at + k) d in
+      let r : List ℕ = take m (drop k s) ++ drop (at + k + m) d in
+      let back : drop (at + k) (p ++ r) ≡ r = drop-at p r (at + k) (length-take-le (at + k) d (omega arith)) in
+      rw (paste-take d (at + k) (drop k s) m (omega arith) (rw length-drop (omega arith)) at (omega arith))
+      (rw (append-assoc p (take m (drop k s)) (drop (at + k + m) d), back, take-add k m s, add-assoc at k m) (simp append-assoc))
+
+-- ---- a move after a move: what the second one reads is still as it was
+
+module _ (d : List ℕ) (to from k m n : ℕ) (both : k + m ≡ n) (t u : List ℕ) where
+  -- k words moved down, then m more behind them
+  pub down-more : to ≤ from → from + n ≤ length d → t ≡ paste d to (drop from d) k → u ≡ paste t (to + k) (drop (from + k) t) m
+      → u ≡ paste d to (drop from d) n
+  down-more le fits is next =
+      let e : to + k + (from - to) ≡ from + k = omega arith in
+      let enough : k + m ≤ length (drop from d) = rw length-drop (omega arith) in
+      let same : drop (from + k) (paste d to (drop from d) k) ≡ drop k (drop from d) =
+      rw e at (paste-drop d to (drop from d) k (omega arith) (omega arith) (from - to)) ∙ sym (drop-drop k from d) in
+      next ∙ rw (is, same, ← both) (paste-behind d to (drop from d) k m (omega arith) enough)
+
+  -- m words moved up, then the k before them
+  pub up-more : from ≤ to → to + n ≤ length d → t ≡ paste d (to + k) (drop (from + k) d) m → u ≡ paste t to (drop from t) k
+      → u ≡ paste d to (drop from d) n
+  up-more le fits is next =
+      let s : List ℕ = drop from d in
+      let enough : k + m ≤ length s = rw length-drop (omega arith) in
+      let behind : m ≤ length (drop k s) = rw length-drop (omega arith) in
+      let so : t ≡ paste d (to + k) (drop k s) m = rw drop-drop is in
+      let long : length t ≡ length d = rw so (length-paste d (to + k) (drop k s) m (omega arith) behind) in
+      let same : take k (drop from t) ≡ take k s =
+      part-front t from k (from + k) refl (omega arith)
+      ∙ ap (drop from) (rw so (paste-take d (to + k) (drop k s) m (omega arith) behind (from + k) (omega arith)))
+      ∙ sym (part-front d from k (from + k) refl (omega arith)) in
+      next ∙ rw (same, so, ← both) (paste-before d to s k m (omega arith) enough)
+
+-- ---- the loops
+
 module _ (d : List ℕ) (to from len : ℕ) where
-  -- what a copy downwards reads next is still as it was
-  down-read : (k : ℕ) → to ≤ from → from + len ≤ length d → k < len
-      → getD (paste d to (drop from d) k) (from + k) 0 ≡ getD (drop from d) k 0
-  down-read k le fits lt =
-      let e : from + k ≡ to + k + (from - to) = omega arith in
-      let l : k ≤ length (drop from d) = rw length-drop (omega arith) in
-      ap (λ (x : ℕ). getD (paste d to (drop from d) k) x 0) e
-      ∙ sym (getD-drop (to + k) (paste d to (drop from d) k) (from - to) 0)
-      ∙ ap (λ (x : List ℕ). getD x (from - to) 0) (drop-paste d to (drop from d) k (omega arith) l)
-      ∙ getD-drop (to + k) d (from - to) 0
-      ∙ ap (λ (x : ℕ). getD d x 0) (sym e)
-      ∙ sym (getD-drop from d k 0)
-
-  pub down-next : (k : ℕ) (t : List ℕ) → to ≤ from → from + len ≤ length d → k < len → t ≡ paste d to (drop from d) k
-      → set t (to + k) (getD t (from + k) 0) ≡ paste d to (drop from d) (k + 1)
-  down-next k t le fits lt is =
-      rw (is, add-one, down-read k le fits lt) (paste-suc d to (drop from d) k 0 (omega arith) (rw length-drop (omega arith)))
-
   abbrev pub rising : ℕ → List ℕ
-  rising k = take (to + k) d ++ (drop k (take len (drop from d)) ++ drop (to + len) d)
+  rising k = paste d (to + k) (drop (from + k) d) (len - k)
 
   pub rising-none : rising 0 ≡ paste d to (drop from d) len
-  rising-none = rw add-zero (sym (append-assoc (take to d) (take len (drop from d)) (drop (to + len) d)))
+  rising-none = simp (add-zero, sub-zero)
 
-  pub rising-all : rising len ≡ d
-  rising-all =
-      let e : drop len (take len (drop from d)) ≡ [] = drop-of-length-le (take len (drop from d)) {i = len} (rw length-take (omega arith)) in
-      rw e (take-append-drop (to + len) d)
+  pub rising-all : d ≡ rising len
+  rising-all = let e : len - len ≡ 0 = omega arith in rw e (paste-zero d (to + len) (drop (from + len) d))
 
-  rising-read : (k : ℕ) → from ≤ to → to + len ≤ length d → k < len → getD (rising (k + 1)) (from + k) 0 ≡ getD (drop from d) k 0
-  rising-read k le fits lt =
-      List·getD-append (take (to + (k + 1)) d) _ 0 (from + k) (rw length-take (omega arith))
-      ∙ getD-take (to + (k + 1)) d (from + k) 0 (omega arith)
-      ∙ sym (getD-drop from d k 0)
-
-  rising-cons : (k : ℕ) → from ≤ to → to + len ≤ length d → k < len
-      → drop k (take len (drop from d)) ≡ getD (drop from d) k 0 ∷ drop (k + 1) (take len (drop from d))
-  rising-cons k le fits lt =
-      drop-cons (take len (drop from d)) k 0 (rw (length-take, length-drop) (omega arith)) ∙ rw (add-one, getD-take len (drop from d) k 0 lt)
-
-  pub rising-next : (k : ℕ) (t : List ℕ) → from ≤ to → to + len ≤ length d → k < len → t ≡ rising (k + 1)
-      → set t (to + k) (getD t (from + k) 0) ≡ rising k
-  rising-next k t le fits lt is =
-      let x : ℕ = getD (drop from d) k 0 in
-      let r : List ℕ = drop (k + 1) (take len (drop from d)) ++ drop (to + len) d in
-      let next : to + (k + 1) ≡ suc (to + k) = omega arith in
-      let e : take (to + (k + 1)) d ++ r ≡ take (to + k) d ++ (getD d (to + k) 0 ∷ r) =
-      rw (next, take-suc d (to + k) 0 (omega arith)) (append-snoc (take (to + k) d) (getD d (to + k) 0) r) in
-      ap (λ (l : List ℕ). set l (to + k) (getD l (from + k) 0)) is
-      ∙ ap (λ (v : ℕ). set (rising (k + 1)) (to + k) v) (rising-read k le fits lt)
-      ∙ ap (λ (l : List ℕ). set l (to + k) x) e
-      ∙ set-at (take (to + k) d) (getD d (to + k) 0) r x (to + k) (length-take-le (to + k) d (omega arith))
-      ∙ ap (λ (l : List ℕ). take (to + k) d ++ (l ++ drop (to + len) d)) (sym (rising-cons k le fits lt))
+  pub rising-next : (k m : ℕ) (t u : List ℕ) → from ≤ to → to + len ≤ length d → k + m ≤ len → t ≡ rising (k + m)
+      → u ≡ paste t (to + k) (drop (from + k) t) m → u ≡ rising k
+  rising-next k m t u le fits lt is next =
+      up-more d (to + k) (from + k) m (len - (k + m)) (len - k) (omega arith) t u (omega arith) (omega arith) (is ∙ simp add-assoc) next
 
 pub clear-next : (d : List ℕ) (from len k : ℕ) (t : List ℕ) → from + len ≤ length d → k < len → t ≡ paste d from (replicate len 0) k
     → set t (from + k) 0 ≡ paste d from (replicate len 0) (k + 1)
@@ -111,11 +150,7 @@ module _ (w : List ℕ) (to from end : ℕ) (low : from ≤ end) (high : end ≤
     back : drop (to + (end - from) + (from - to)) x ≡ replicate (length w - end) 0
     back =
         let e : to + (end - from) + (from - to) ≡ end = omega arith in
-        let d = drop-paste w to (drop from w) (end - from) (omega arith) enough in
-        sym (drop-drop (from - to) (to + (end - from)) x)
-        ∙ ap (λ (l : List ℕ). drop (from - to) l) (rw is d)
-        ∙ drop-drop (from - to) (to + (end - from)) w
-        ∙ rw e behind
+        rw (is, paste-drop w to (drop from w) (end - from) (omega arith) enough (from - to), e) behind
 
     pub down-moved : paste x (to + (end - from)) (replicate (from - to) 0) (from - to) ≡ moved w to from end
     down-moved =

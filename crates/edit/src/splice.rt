@@ -1,57 +1,27 @@
 // Entries of a lent table replaced in place: those behind them move up or down, the new ones are laid, and what is left over becomes 0.
 ghost use mathlib.Core.Path.{_≡_};
 ghost use Prim.Native.Nat.{_+_, _*_, _≤_};
-ghost use lib.ListN.{length, drop, replicate};
-ghost use lib.Seq.{paste};
+ghost use lib.ListN.{length};
 ghost use Rattle.pieces.specs.Words.{entryWords, laid};
 ghost use Rattle.edit.specs.Edit.{mostPieces, held, ShiftFits, shifted, SpliceFits, Spliced};
 use crate::few::Few;
+use crate::moves::clear;
+use crate::moves::move_down;
+use crate::moves::move_up;
 use pieces::ENTRY_WORDS;
 use pieces::put;
-
-// len words from `from` on go down to `to`, the first first.
-fn move_down(table: &mut [u64], to: usize, from: usize, len: usize)
-    requires { ⌜ (to ≤ from) × (from + len ≤ length (now table)) ⌝ }
-    ensures { λ _. ⌜ now (table .exit) ≡ paste (now (table .entry)) to (drop from (now (table .entry))) len ⌝ }
-{
-    let mut k: usize = 0;
-    while k < len {
-        table[to + k] = table[from + k];
-        k = k + 1;
-    }
-}
-
-// len words from `from` on go up to `to`, the last first.
-fn move_up(table: &mut [u64], to: usize, from: usize, len: usize)
-    requires { ⌜ (from ≤ to) × (to + len ≤ length (now table)) ⌝ }
-    ensures { λ _. ⌜ now (table .exit) ≡ paste (now (table .entry)) to (drop from (now (table .entry))) len ⌝ }
-{
-    let mut k = len;
-    while 0 < k {
-        k = k - 1;
-        table[to + k] = table[from + k];
-    }
-}
-
-// len words from `from` on become 0.
-pub fn clear(table: &mut [u64], from: usize, len: usize)
-    requires { ⌜ from + len ≤ length (now table) ⌝ }
-    ensures { λ _. ⌜ now (table .exit) ≡ paste (now (table .entry)) from (replicate len 0) len ⌝ }
-{
-    let mut k: usize = 0;
-    while k < len {
-        table[from + k] = 0;
-        k = k + 1;
-    }
-}
 
 // Entries j up to n go to entry a on, and every word behind them is 0.
 fn shift(table: &mut [u64], n: usize, a: usize, j: usize)
     requires { ⌜ ShiftFits (now table) n a j ⌝ }
     ensures { λ _. ⌜ now (table .exit) ≡ shifted (now (table .entry)) n a j ⌝ }
 {
+    if a == j {
+        // They stay where they are, and the words behind them are 0 already.
+        return;
+    }
     let left = n - j;
-    if a <= j {
+    if a < j {
         move_down(table, a * ENTRY_WORDS, j * ENTRY_WORDS, left * ENTRY_WORDS);
         clear(table, (a + left) * ENTRY_WORDS, (j - a) * ENTRY_WORDS);
     } else {

@@ -1,13 +1,13 @@
--- `edit::splice::move_up` meets its contract: a word is read before the copy, which goes down and writes above it, reaches it.
+-- `edit::moves::words_up` meets its contract: a word is read before the copy, which goes down and writes above it, reaches it.
 -- Assumes nothing.
 use Prim.Native.Nat.{ℕ, _≤_, _-_, _+_}
-use mathlib.Core.Path.{_≡_, refl, sym, ap, _∙_}
+use mathlib.Core.Path.{_≡_, refl, ap, _∙_}
 use native.Mathlib.Omega.{arith}
 use lib.ListN.{length, length-set}
 use borrow.Author.Needs.{needs}
-use Rattle.edit.proofs.MoveLaws.{rising, rising-next, rising-none, rising-all}
-use Rattle.edit.proofs.splice.move_up.Statement.{statement}
-use Rattle.edit.proofs.splice.move_up.Tie as tie
+use Rattle.edit.proofs.MoveLaws.{stored-pasted, rising, rising-next, rising-none, rising-all}
+use Rattle.edit.proofs.moves.words_up.Statement.{statement}
+use Rattle.edit.proofs.moves.words_up.Tie as tie
 
 abbrev Inv-loop : tie.InvT-loop
 Inv-loop table₀ to from len k₀ table k =
@@ -17,7 +17,7 @@ abbrev μ-loop : tie.MeasureT-loop
 μ-loop table₀ to from len k₀ table k = k
 
 loop-holds : tie.Need-loop-holds Inv-loop μ-loop
-loop-holds c = (search needs, refl, sym (rising-all (c .args .table .now) (c .args .to) (c .args .from) (c .args .len)))
+loop-holds c = (search needs, refl, rising-all (c .args .table .now) (c .args .to) (c .args .from) (c .args .len))
 
 sub-k : tie.Need-sub-k Inv-loop μ-loop
 sub-k c = search needs
@@ -48,11 +48,13 @@ loop-again c =
     let a = c .before .before .before .args in
     let pre = c .before .before .before .pre in
     let l = c .before .before .loop in
-    let e : l .k ≡ l .k - 1 + 1 = omega arith in
-    let is = l .inv .2 ∙ ap (λ (k : ℕ). rising (a .table .now) (a .to) (a .from) (a .len) k) e in (
+    let k : ℕ = l .k - 1 in
+    let e : l .k ≡ k + 1 = omega arith in
+    let is = l .inv .2 ∙ ap (rising (a .table .now) (a .to) (a .from) (a .len)) e in
+    let word = stored-pasted (l .table) (a .to + k) (a .from + k) 1 (omega arith) (omega arith) in (
       search needs,
       simp length-set (l .inv .1),
-      rising-next (a .table .now) (a .to) (a .from) (a .len) (l .k - 1) (l .table) (pre .0) (pre .1) (omega arith) is,
+      rising-next (a .table .now) (a .to) (a .from) (a .len) k 1 (l .table) _ (pre .0) (pre .1) (omega arith) is word,
     )
 
 same-length : tie.Need-same-length Inv-loop μ-loop
@@ -64,11 +66,11 @@ returns c =
     let l = c .before .loop in
     let e : l .k ≡ 0 = omega arith in
     l .inv .2
-    ∙ ap (λ (k : ℕ). rising (a .table .now) (a .to) (a .from) (a .len) k) e
+    ∙ ap (rising (a .table .now) (a .to) (a .from) (a .len)) e
     ∙ rising-none (a .table .now) (a .to) (a .from) (a .len)
 
-pub move-up-spec : {M : Type 1} → statement M
-move-up-spec =
+pub words-up-spec : {M : Type 1} → statement M
+words-up-spec =
     tie.close
     (tie.spec
     Inv-loop

@@ -1,14 +1,14 @@
--- `edit::splice::move_down` meets its contract: a word is read before the copy, which writes below it, reaches it.
+-- `edit::moves::words_down` meets its contract: a word is read before the copy, which writes below it, reaches it.
 -- Assumes nothing.
-use Prim.Native.Nat.{ℕ, _≤_, _-_}
+use Prim.Native.Nat.{ℕ, _≤_, _-_, _+_}
 use mathlib.Core.Path.{_≡_, refl, ap, _∙_}
 use native.Mathlib.Omega.{arith}
 use lib.ListN.{length, drop, length-set}
 use lib.Seq.{paste, paste-zero}
 use borrow.Author.Needs.{needs}
-use Rattle.edit.proofs.MoveLaws.{down-next}
-use Rattle.edit.proofs.splice.move_down.Statement.{statement}
-use Rattle.edit.proofs.splice.move_down.Tie as tie
+use Rattle.edit.proofs.MoveLaws.{stored-pasted, down-more}
+use Rattle.edit.proofs.moves.words_down.Statement.{statement}
+use Rattle.edit.proofs.moves.words_down.Tie as tie
 
 abbrev Inv-loop : tie.InvT-loop
 Inv-loop table₀ to from len k₀ table k =
@@ -48,10 +48,11 @@ loop-again : tie.Need-loop-again Inv-loop μ-loop
 loop-again c =
     let a = c .before .before .before .args in
     let pre = c .before .before .before .pre in
-    let l = c .before .before .loop in (
+    let l = c .before .before .loop in
+    let word = stored-pasted (l .table) (a .to + l .k) (a .from + l .k) 1 (omega arith) (omega arith) in (
       search needs,
       simp length-set (l .inv .1),
-      down-next (a .table .now) (a .to) (a .from) (a .len) (l .k) (l .table) (pre .0) (pre .1) (c .before .loop-test .taken) (l .inv .2),
+      down-more (a .table .now) (a .to) (a .from) (l .k) 1 (l .k + 1) refl (l .table) _ (pre .0) (omega arith) (l .inv .2) word,
     )
 
 same-length : tie.Need-same-length Inv-loop μ-loop
@@ -64,8 +65,8 @@ returns c =
     let e : l .k ≡ a .len = omega arith in
     l .inv .2 ∙ ap (λ (k : ℕ). paste (a .table .now) (a .to) (drop (a .from) (a .table .now)) k) e
 
-pub move-down-spec : {M : Type 1} → statement M
-move-down-spec =
+pub words-down-spec : {M : Type 1} → statement M
+words-down-spec =
     tie.close
     (tie.spec
     Inv-loop
