@@ -2,10 +2,11 @@
 --
 --   closing-next, closing-none    what closes before a live piece, and before nothing
 --   end-behind-next, -none        the end, likewise
---   count-closing                 a plan puts in no more entries than a Few holds
+--   between                       what stands between two live pieces, and that it is what a plan puts in
 --   sums                          what a sound table's entries leave of the numbers of 64 bits
 --   plan-filled, plan-ends        the table and the end, for any new pieces between the two live ones
---   planned-for                   the whole: `planFor` is `Planned`
+--   planned-for                   the whole: a plan to put in what stands between is `Planned`
+--   planned-without, -with        so are `planWithout` and `planWith`
 --   plan-without, plan-with       the plans, as the code makes them
 --
 -- Assumes nothing.
@@ -16,12 +17,14 @@ use native.Mathlib.Omega.{arith}
 use lib.ListN.{length, length-append}
 use borrow.Author.Tests.{lt-ltb, le-ltb}
 use Rattle.change.proofs.AroundLaws.{former-is, NextIs, next-is}
-use Rattle.change.specs.Change.{formerStep, formerOf, nextOf, endBehind, planOf, between, planFor, PlanFits, Planned}
+use Rattle.change.specs.Change.{formerStep, formerOf, nextOf, closingGap, endBehind, planOf, planWithout, planWith, PlanFits, Planned}
 use Rattle.change.specs.declared.around.Former.{Former}
 use Rattle.change.specs.declared.plan.Plan.{Plan}
-use Rattle.edit.proofs.FewLaws.{free-length, gap-length, with-append, count-more, holding-few}
-use Rattle.edit.specs.Edit.{gapPieces, mostPieces, noPieces, withPiece, withPieces, held, Holding}
-use Rattle.edit.specs.declared.few.Few.{Few}
+use Rattle.edit.proofs.NewLaws.{gap-entries, tail-entries}
+use Rattle.edit.specs.New.{gapOf, tailOf, gapEntries, newEntries}
+use Rattle.edit.specs.declared.gap.Gap.{Gap}
+use Rattle.edit.specs.declared.new.New.the-variants.{Without, With}
+use Rattle.edit.specs.declared.new.New.{New}
 use Rattle.pages.proofs.Numbers.{split}
 use Rattle.pages.proofs.PageLaws.{page-pos}
 use Rattle.pages.specs.Pages.{up}
@@ -39,17 +42,17 @@ use Rattle.table.proofs.Chain.{Chain}
 use Rattle.table.proofs.Literal.{chain-of}
 use Rattle.table.proofs.LivesLaws.{lives-append}
 use Rattle.table.proofs.TilingLaws.{ends-below, ends-fit}
-use Rattle.table.specs.Fill.{lives, gap, tail, fill, lastEnd, endOf}
+use Rattle.table.specs.Fill.{lives, fill, lastEnd, endOf}
 
 -- ---- what closes, as the code finds it
 
 pub closing-next : (P : ℕ) (k : Class) (a : ℕ) (w : List ℕ) (to n : ℕ) (y : Piece) → to < n → y ≡ entryAt w to
-    → closing P k a (entries w to (n - to)) ≡ gap P k a (y .address) (classOf (y .status))
-unfolding closing
+    → closingGap P k a (entries w to (n - to)) ≡ gapOf P k a (y .address) (classOf (y .status))
+unfolding closingGap
 closing-next P k a w to n y lt is = rw (entries-next w n to lt, ← is)
 
-pub closing-none : (P : ℕ) (k : Class) (a : ℕ) (w : List ℕ) (to n : ℕ) → n ≤ to → closing P k a (entries w to (n - to)) ≡ tail P k a
-unfolding closing
+pub closing-none : (P : ℕ) (k : Class) (a : ℕ) (w : List ℕ) (to n : ℕ) → n ≤ to → closingGap P k a (entries w to (n - to)) ≡ tailOf P k a
+unfolding closingGap
 closing-none P k a w to n le = rw (entries-none w n to le)
 
 pub end-behind-next : (P E a to n : ℕ) → to < n → endBehind P E a to n ≡ E
@@ -73,24 +76,27 @@ unfolding lastEnd lives
 last-end-live a b starts-none some = absurd (some refl)
 last-end-live a b starts-live some = refl
 
--- ---- how many entries a plan puts in
+-- ---- what a plan puts in
 
-closing-length : (P : ℕ) (k : Class) (a : ℕ) (es : List Piece) → length (closing P k a es) ≤ gapPieces
-unfolding closing
-closing-length P k a [] = omega (arith, free-length k a (up P a))
-closing-length P k a (y ∷ es) = gap-length P k a (y .address) (classOf (y .status))
+-- the pieces ps with what is free around them, behind a piece of class k that ends at a and before the entries es
+abbrev between : ℕ → Class → ℕ → List Piece → List Piece → List Piece
+between P k a ps es = frontFrom P k a ps ++ closing P (lastClass k ps) (lastEnd a ps) es
 
-pub count-closing : (q r : Few) (P : ℕ) (k : Class) (a : ℕ) (es : List Piece) → r ≡ withPieces q (closing P k a es) → r .count ≤ q .count + gapPieces
-count-closing q r P k a es e = omega (arith, count-more q r (closing P k a es) e, closing-length P k a es)
+closing-entries : (P : ℕ) (k : Class) (a : ℕ) (es : List Piece) → gapEntries (closingGap P k a es) ≡ closing P k a es
+unfolding closingGap closing
+closing-entries P k a [] = tail-entries P k a
+closing-entries P k a (y ∷ es) = gap-entries P k a (y .address) (classOf (y .status))
 
--- one new piece has a gap before it
-between-length : (P : ℕ) (k : Class) (a : ℕ) (ps es : List Piece) → length ps ≤ 1 → length (between P k a ps es) ≤ mostPieces
-unfolding frontFrom
-between-length P k a [] es one = omega (arith, closing-length P (lastClass k []) (lastEnd a []) es)
-between-length P k a (x ∷ []) es one =
-    let g = gap-length P k a (x .address) (classOf (x .status)) in
-    simp length-append (omega (arith, g, closing-length P (lastClass k (x ∷ [])) (lastEnd a (x ∷ [])) es))
-between-length P k a (x ∷ y ∷ ps) es one = absurd (omega arith)
+between-none : (P : ℕ) (k : Class) (a : ℕ) (es : List Piece) → newEntries (Without (closingGap P k a es)) ≡ between P k a [] es
+unfolding newEntries frontFrom lastClass lastEnd
+between-none P k a es = closing-entries P k a es
+
+between-one : (P : ℕ) (k : Class) (a : ℕ) (x : Piece) (es : List Piece)
+    → newEntries (With (gapOf P k a (x .address) (classOf (x .status))) x (closingGap P (classOf (x .status)) (behind x) es))
+    ≡ between P k a (x ∷ []) es
+unfolding newEntries frontFrom lastClass lastEnd
+between-one P k a x es =
+    rw (gap-entries P k a (x .address) (classOf (x .status)), closing-entries P (classOf (x .status)) (behind x) es) (simp append-assoc)
 
 module _ {P E n i j : ℕ} {w : List ℕ} (h : PlanFits P E n i j w) where
   abbrev f : Former
@@ -182,25 +188,20 @@ module _ {P E n i j : ℕ} {w : List ℕ} (h : PlanFits P E n i j w) where
 
   -- ---- the whole
 
-  module _ (ps : List Piece) (one : length ps ≤ 1) where
-    abbrev q : Few
-    q = withPieces noPieces (between P (f .class) (f .end) ps ys)
+  planned-for : (ps : List Piece) (new : New) → newEntries new ≡ between P (f .class) (f .end) ps ys
+      → Planned P n w (livesWith w n i j ps) (planOf P E n (f .from) t new (lastEnd (f .end) ps))
+  planned-for ps new is =
+      let all : xs ++ (newEntries new ++ ys) ≡ fill P (livesWith w n i j ps) = rw is (plan-filled ps) in
+      let size = simp (length-append, length-entries) at (ap length all) in
+      record { low = from-to; high = to-n; count = omega arith; ends = plan-ends ps; filled = all }
 
-    holds : Holding q (between P (f .class) (f .end) ps ys)
-    holds = holding-few (between P (f .class) (f .end) ps ys) (between-length P (f .class) (f .end) ps ys one)
+  pub planned-without : Planned P n w (livesWith w n i j []) (planWithout P E n i j w)
+  unfolding planWithout lastEnd
+  planned-without = planned-for [] _ (between-none P (f .class) (f .end) ys)
 
-    filled : xs ++ (held q ++ ys) ≡ fill P (livesWith w n i j ps)
-    filled = rw (holds .pieces) (plan-filled ps)
-
-    counted : f .from + q .count + (n - t) ≡ length (fill P (livesWith w n i j ps))
-    counted =
-        let e = simp (length-append, length-entries, holds .pieces) at (ap length filled) in
-        omega (arith, holds .count, simp length-append at (holds .count), e)
-
-    pub planned-for : Planned P n w (livesWith w n i j ps) (planFor P E n i j w ps)
-    unfolding planFor
-    planned-for =
-        record { low = from-to; high = to-n; few = holds .few; counted = refl; count = counted; ends = plan-ends ps; filled = filled }
+  pub planned-with : (x : Piece) → Planned P n w (livesWith w n i j (x ∷ [])) (planWith P E n i j w x)
+  unfolding planWith lastEnd
+  planned-with x = planned-for (x ∷ []) _ (between-one P (f .class) (f .end) x ys)
 
 -- ---- the plans, as the code makes them
 
@@ -215,19 +216,13 @@ module _ {P E n i j : ℕ} {w : List ℕ} (h : PlanFits P E n i j w) (fr : Forme
   pub found-high : to ≤ n
   found-high = omega (arith, to-n h)
 
-  pub plan-without : (e q : Few) (r : Plan) → e ≡ noPieces → q ≡ withPieces e (closing P (fr .class) (fr .end) (entries w to (n - to)))
-      → r ≡ planOf P E n (fr .from) to q (fr .end) → r ≡ planFor P E n i j w []
-  unfolding planFor frontFrom lastClass lastEnd
-  plan-without e q r ee eq er = rw (← ef, ← et, ← ee, ← eq) er
+  pub plan-without : (g : Gap) (r : Plan) → g ≡ closingGap P (fr .class) (fr .end) (entries w to (n - to))
+      → r ≡ planOf P E n (fr .from) to (Without g) (fr .end) → r ≡ planWithout P E n i j w
+  unfolding planWithout
+  plan-without g r eg er = rw (← ef, ← et, ← eg) er
 
-  pub plan-with : (x : Piece) (k : Class) (e g c q : Few) (r : Plan) → k ≡ classOf (x .status) → e ≡ noPieces
-      → g ≡ withPieces e (gap P (fr .class) (fr .end) (x .address) k) → c ≡ withPiece g x
-      → q ≡ withPieces c (closing P k (behind x) (entries w to (n - to))) → r ≡ planOf P E n (fr .from) to q (behind x)
-      → r ≡ planFor P E n i j w (x ∷ [])
-  unfolding planFor frontFrom lastClass lastEnd withPieces
-  plan-with x k e g c q r ek ee eg ec eq er =
-      let front : List Piece = gap P (fr .class) (fr .end) (x .address) k in
-      let close : List Piece = closing P k (behind x) (entries w to (n - to)) in
-      let all : withPieces noPieces ((front ++ (x ∷ [])) ++ close) ≡ q =
-      with-append noPieces (front ++ (x ∷ [])) close ∙ rw (with-append noPieces front (x ∷ []), ← ee, ← eg, ← ec, ← eq) in
-      rw (← ef, ← et, ← ek, all) er
+  pub plan-with : (x : Piece) (k : Class) (front rear : Gap) (r : Plan) → k ≡ classOf (x .status)
+      → front ≡ gapOf P (fr .class) (fr .end) (x .address) k → rear ≡ closingGap P k (behind x) (entries w to (n - to))
+      → r ≡ planOf P E n (fr .from) to (With front x rear) (behind x) → r ≡ planWith P E n i j w x
+  unfolding planWith
+  plan-with x k front rear r ek eg ec er = rw (← ef, ← et, ← ek, ← eg, ← ec) er

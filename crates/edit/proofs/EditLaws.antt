@@ -1,10 +1,10 @@
 -- Laws of the splice.
 --
--- In this order: the entries behind the place kept, moved up, moved down; the new ones laid over that; both together; `spliced-table` and
--- `splice-replaces`, the statements SplicedTable and SpliceReplaces of specs/Edit.antt.
+-- In this order: the entries behind the place kept, moved up, moved down; the new ones laid over that; both together; `spliced-table`, the
+-- statement SplicedTable of specs/Edit.antt.
 --
 -- Not here: laws of the moves' loops (MoveLaws), of laid pieces (WordLaws of `pieces`). Assumes nothing.
-use mathlib.Core.Path.{_≡_, refl, sym, _∙_}
+use mathlib.Core.Path.{_≡_, sym, _∙_}
 use mathlib.Core.List.{List, _++_, append-assoc}
 use Prim.Native.Nat.{ℕ, _+_, _-_, _*_, _≤_, _<_}
 use native.Mathlib.Omega.{arith}
@@ -13,10 +13,9 @@ use lib.Seq.{paste, take-at, drop-at, take-take, take-append-le, length-take-le}
 use Rattle.pieces.specs.declared.Piece.{Piece}
 use Rattle.pieces.specs.Words.{entryWords, words, table, laid}
 use Rattle.pieces.proofs.WordLaws.{length-words, words-append, words-take, words-drop, zeros-replicate}
-use Rattle.edit.specs.declared.few.Few.{Few}
-use Rattle.edit.specs.Edit.{mostPieces, held}
-use Rattle.edit.specs.Edit.{spliced, SpliceFits, Spliced, shifted, ShiftFits, SplicedTable, SpliceReplaces}
-use Rattle.edit.proofs.FewLaws.{length-held}
+use Rattle.edit.specs.declared.new.New.{New}
+use Rattle.edit.specs.New.{newEntries}
+use Rattle.edit.specs.Edit.{spliced, SpliceFits, shifted, ShiftFits, SplicedTable}
 use Rattle.edit.proofs.MoveLaws.{up-moved, down-moved}
 
 -- entries that stay at their place: nothing is to be done
@@ -73,13 +72,11 @@ laid-shifted w n i j new x fits is =
     rw (is, front, drop-at (take m w) r m lf)
 
 -- shifted, then laid
-pub splice-right : (w : List ℕ) (n i j : ℕ) (new : Few) (x y : List ℕ) → SpliceFits w n i j new → length (new .list) ≡ mostPieces
-    → x ≡ shifted w n (i + new .count) j → y ≡ laid x i (held new) → Spliced w n i j new (i + new .count + (n - j)) y
-splice-right w n i j new x y fits all is to =
-    let e : length (held new) ≡ new .count = length-held new all (fits .few) in
-    let room : (i + new .count + (n - j)) * entryWords ≤ length w = fits .room in
-    let s : x ≡ shifted w n (i + length (held new)) j = rw e is in
-    record { count = refl; words = to ∙ laid-shifted w n i j (held new) x (rw e (omega arith)) s }
+pub splice-right : (w : List ℕ) (n i j : ℕ) (new : New) (count : ℕ) (x v : List ℕ) → SpliceFits w n i j new count
+    → x ≡ shifted w n (count - (n - j)) j → v ≡ laid x i (newEntries new) → v ≡ spliced w n i j (newEntries new)
+splice-right w n i j new count x v fits is to =
+    let a : count - (n - j) ≡ i + length (newEntries new) = omega (arith, fits .counted) in
+    to ∙ laid-shifted w n i j (newEntries new) x (omega (arith, fits .counted, fits .room)) (rw a at is)
 
 pub spliced-table : SplicedTable
 unfolding spliced table
@@ -93,12 +90,3 @@ spliced-table len es i j new fits low high =
     simp (length-append, length-take, length-drop) (omega arith) in
     let size : length (words es ++ z) ≡ len = simp (length-append, length-replicate) (omega arith) in
     rw (front, whole, ← words-drop j es, count, size) (simp (words-append, append-assoc))
-
-pub splice-replaces : SpliceReplaces
-splice-replaces len es n w i j new q r v is fits low high holds done =
-    let size : length (take i es ++ (new ++ drop j es)) ≡ i + length new + (length es - j) =
-    simp (length-append, length-take, length-drop) (omega (arith, is .count)) in
-    record {
-      count = omega (arith, size, done .count, is .count, holds .count);
-      words = done .words ∙ rw (holds .pieces, is .words, is .count) (spliced-table len es i j new fits low (rw (is .count) at high));
-    }

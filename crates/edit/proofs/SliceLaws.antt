@@ -1,23 +1,15 @@
 -- Facts about the lists that slices and arrays hold, which name none of our words.
 --
---   length-mapped      what owning an array of structs tells of its list: as length-unmapped of borrow.Author.Needs, at any map
 --   drop-replicate     the rest of a run of zeros
 --   part-front         a part of a front is a front of a part
 --
 -- Not here: laws of take, drop, getD, set and paste (lib.ListN, lib.Seq). Assumes nothing.
-use mathlib.Core.Path.{_≡_, refl, sym, ap, _∙_}
-use mathlib.Core.List.{List, [], _∷_, map}
-use Prim.Native.Nat.{ℕ, suc, _+_, _-_, _≤_, _<_}
+use mathlib.Core.Path.{_≡_, sym, _∙_}
+use mathlib.Core.List.{List}
+use Prim.Native.Nat.{ℕ, _+_, _-_, _≤_, _<_}
 use native.Mathlib.Omega.{arith}
 use lib.ListN.{length, take, drop, replicate, length-drop, length-replicate, getD-replicate}
 use lib.Seq.{ext-getD, getD-drop, take-add, drop-at, length-take-le}
-
-pub length-mapped : (X Y : Type 0) (f : X → Y) (l : List X) (n : ℕ) → length (map f l) ≡ n → length l ≡ n
-length-mapped X Y f l n e = sym (len l) ∙ e
-  where
-    len : (k : List X) → length (map f k) ≡ length k
-    len [] = refl
-    len (x ∷ k) = ap suc (len k)
 
 pub drop-replicate : (k n : ℕ) → drop {A = ℕ} k (replicate n 0) ≡ replicate (n - k) 0
 drop-replicate k n =

@@ -1,3 +1,4 @@
 -- What the contracts of `edit` cite, and what is proved of it.
 pub mod Moves
+pub mod New
 pub mod Edit

@@ -1,5 +1,5 @@
-// A splice of a table: a few new entries, made by value, take the place of those between two entries that stay.
-pub mod few;
-mod gap;
+// A splice of a table: new entries, told by a few numbers, take the place of those between two entries that stay.
+pub mod gap;
 pub mod moves;
+pub mod new;
 pub mod splice;

@@ -2,14 +2,14 @@
 ghost use mathlib.Core.Path.{_≡_};
 ghost use Prim.Native.Nat.{_+_, _*_, _≤_};
 ghost use lib.ListN.{length};
-ghost use Rattle.pieces.specs.Words.{entryWords, laid};
-ghost use Rattle.edit.specs.Edit.{mostPieces, held, ShiftFits, shifted, SpliceFits, Spliced};
-use crate::few::Few;
+ghost use Rattle.edit.specs.New.{newEntries};
+ghost use Rattle.edit.specs.Edit.{ShiftFits, shifted, SpliceFits, spliced};
 use crate::moves::clear;
 use crate::moves::move_down;
 use crate::moves::move_up;
+use crate::new::New;
+use crate::new::put_new;
 use pieces::ENTRY_WORDS;
-use pieces::put;
 
 // Entries j up to n go to entry a on, and every word behind them is 0.
 fn shift(table: &mut [u64], n: usize, a: usize, j: usize)
@@ -30,27 +30,12 @@ fn shift(table: &mut [u64], n: usize, a: usize, j: usize)
     }
 }
 
-// The entries from i on become the new ones.
-fn put_all(table: &mut [u64], i: usize, new: Few)
-    requires { ⌜ (new .count ≤ mostPieces) × ((i + new .count) * entryWords ≤ length (now table)) ⌝ }
-    ensures { λ _. ⌜ now (table .exit) ≡ laid (now (table .entry)) i (held new) ⌝ }
+// Of n entries those from i up to j are replaced by the new ones: then there are `count`, which the caller has worked out.
+pub fn splice(table: &mut [u64], n: usize, i: usize, j: usize, new: New, count: usize)
+    requires { ⌜ SpliceFits (now table) n i j new count ⌝ }
+    ensures { λ _. ⌜ now (table .exit) ≡ spliced (now (table .entry)) n i j (newEntries new) ⌝ }
 {
-    let count = new.count;
-    let mut k: usize = 0;
-    while k < count {
-        let piece = new.list[k];
-        put(table, i + k, piece);
-        k = k + 1;
-    }
-}
-
-// Of n entries those from i up to j are replaced by the new ones. Answers how many entries there are then.
-pub fn splice(table: &mut [u64], n: usize, i: usize, j: usize, new: Few) -> usize
-    requires { ⌜ SpliceFits (now table) n i j new ⌝ }
-    ensures { λ r. ⌜ Spliced (now (table .entry)) n i j new r (now (table .exit)) ⌝ }
-{
-    let a = i + new.count;
+    let a = count - (n - j);
     shift(table, n, a, j);
-    put_all(table, i, new);
-    a + (n - j)
+    put_new(table, i, new);
 }

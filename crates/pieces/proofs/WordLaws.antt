@@ -12,7 +12,7 @@ use native.Mathlib.Numerals.{add-one, add-two}
 use native.Mathlib.Omega.{arith}
 use lib.ListN.{length, getD, take, drop, set, replicate}
 use lib.ListN.{length-append, length-replicate, length-take, length-drop, take-append-drop, getD-replicate}
-use lib.Seq.{drop-cons, ext-getD, getD-drop, take-at, drop-at, drop-drop, sets-eq, length-take-le, take-suc, getD-append-add}
+use lib.Seq.{drop-cons, ext-getD, getD-drop, take-at, drop-at, drop-drop, sets-eq, getD-append-add}
 use Rattle.pieces.proofs.PieceLaws.{kind-of, status-kind, kind-status}
 use Rattle.pieces.specs.Pieces.{kindOf, Kind, EntryIs, entry-here, entry-later}
 use Rattle.pieces.specs.Words.{entryWords, kindAt, wordsAt, pieceOf, entryAt, entries, words, table, laid, Zeros, EntriesOfTable, TableOfEntries}
@@ -217,26 +217,18 @@ laid-front : (w : List ℕ) (i : ℕ) (es : List Piece) → (i + length es) * en
     → length (take (i * entryWords) w ++ words es) ≡ (i + length es) * entryWords
 laid-front w i es fits = simp (length-append, length-words, length-take) (omega arith)
 
-laid-more : (w : List ℕ) (i : ℕ) (es : List Piece) (x : Piece) → (i + length es + 1) * entryWords ≤ length w
-    → laid (laid w i es) (i + length es) (x ∷ []) ≡ laid w i (es ++ (x ∷ []))
+-- pieces laid behind others are laid with them
+pub laid-append : (w : List ℕ) (i : ℕ) (xs ys : List Piece) → (i + length xs) * entryWords ≤ length w
+    → laid (laid w i xs) (i + length xs) ys ≡ laid w i (xs ++ ys)
 unfolding laid
-laid-more w i es x fits =
-    let m : ℕ = (i + length es) * entryWords in
-    let f : List ℕ = take (i * entryWords) w ++ words es in
-    let lf : length f ≡ m = laid-front w i es (omega arith) in
-    let e : (i + length es + 1) * entryWords ≡ m + entryWords = omega arith in
-    let g : (i + length (es ++ (x ∷ []))) * entryWords ≡ m + entryWords = rw length-append (omega arith) in
-    let s : take (i * entryWords) w ++ (words es ++ drop m w) ≡ f ++ drop m w = sym (append-assoc (take (i * entryWords) w) (words es) (drop m w)) in
-    let back : drop (m + entryWords) (f ++ drop m w) ≡ drop (m + entryWords) w =
-    sym (drop-drop entryWords m (f ++ drop m w)) ∙ ap (λ (l : List ℕ). drop entryWords l) (drop-at f (drop m w) m lf) ∙ drop-drop entryWords m w in
-    rw (s, take-at f (drop m w) m lf, e, g, back, words-append es (x ∷ [])) (simp append-assoc)
-
--- one more of a list
-pub laid-next : (w : List ℕ) (i : ℕ) (list : List Piece) (k : ℕ) (d : Piece) (t t′ : List ℕ) → k < length list
-    → (i + k + 1) * entryWords ≤ length w → t ≡ laid w i (take k list) → t′ ≡ laid t (i + k) (getD list k d ∷ [])
-    → t′ ≡ laid w i (take (k + 1) list)
-laid-next w i list k d t t′ lt fits is to =
-    let l : length (take k list) ≡ k = length-take-le k list (omega arith) in
-    let more : laid (laid w i (take k list)) (i + length (take k list)) (getD list k d ∷ []) ≡ laid w i (take k list ++ (getD list k d ∷ [])) =
-    laid-more w i (take k list) (getD list k d) (rw l fits) in
-    to ∙ rw (is, add-one, take-suc list k d lt) (rw l at more)
+laid-append w i xs ys fits =
+    let m : ℕ = (i + length xs) * entryWords in
+    let k : ℕ = length ys * entryWords in
+    let f : List ℕ = take (i * entryWords) w ++ words xs in
+    let lf : length f ≡ m = laid-front w i xs fits in
+    let e : (i + length xs + length ys) * entryWords ≡ m + k = omega arith in
+    let g : (i + length (xs ++ ys)) * entryWords ≡ m + k = rw length-append (omega arith) in
+    let s : take (i * entryWords) w ++ (words xs ++ drop m w) ≡ f ++ drop m w = sym (append-assoc (take (i * entryWords) w) (words xs) (drop m w)) in
+    let back : drop (m + k) (f ++ drop m w) ≡ drop (m + k) w =
+    sym (drop-drop k m (f ++ drop m w)) ∙ ap (λ (l : List ℕ). drop k l) (drop-at f (drop m w) m lf) ∙ drop-drop k m w in
+    rw (s, take-at f (drop m w) m lf, e, g, back, words-append xs ys) (simp append-assoc)

@@ -1,22 +1,24 @@
 -- Laws of how an accepted change ends.
 --
 --   settled-full, settled-room    the two outcomes of `settledTable`
---   spliced-plan, carried         a splice as planned leaves the table of the planned live pieces
---   plan-fits, plan-right         a sound table lets a plan be made, and it is one for the new live pieces
---   carry-fits                    which can be carried out
+--   plan-counted, spliced-plan    a plan has counted what it puts in, and a splice as planned leaves the table of the planned live pieces
+--   plan-fits                     a sound table lets a plan be made
+--   right-without, right-with     which is one for the new live pieces
+--   carry-fits, carried           and can be carried out; then the change is settled
 --
 -- Assumes nothing.
-use Prim.Native.Nat.{ℕ, _*_, _≤_, _<_}
-use mathlib.Core.List.{List, _++_}
-use mathlib.Core.Path.{_≡_, refl, sym, ap, _∙_, subst}
+use Prim.Native.Nat.{ℕ, _+_, _-_, _*_, _≤_, _<_}
+use mathlib.Core.List.{List, [], _∷_}
+use mathlib.Core.Path.{_≡_, refl, sym, ap, _∙_}
 use native.Mathlib.Omega.{arith}
-use lib.ListN.{length, take, drop, length-append}
+use lib.ListN.{length, length-append}
 use borrow.Author.Tests.{lt-ltb, le-ltb}
-use Rattle.change.proofs.PlanLaws.{planned-for}
-use Rattle.change.specs.Change.{planFor, PlanFits, Planned}
+use Rattle.change.proofs.PlanLaws.{planned-without, planned-with}
+use Rattle.change.specs.Change.{planWithout, planWith, PlanFits, Planned}
 use Rattle.change.specs.declared.plan.Plan.{Plan}
-use Rattle.edit.proofs.EditLaws.{splice-replaces}
-use Rattle.edit.specs.Edit.{held, Holding, Spliced, TableOf}
+use Rattle.edit.proofs.EditLaws.{spliced-table}
+use Rattle.edit.specs.Edit.{spliced}
+use Rattle.edit.specs.New.{newEntries}
 use Rattle.pieces.proofs.WordLaws.{length-entries, take-entries, drop-entries}
 use Rattle.pieces.specs.Words.{entryWords, entries, table}
 use Rattle.pieces.specs.declared.Piece.{Piece}
@@ -41,24 +43,23 @@ module _ (P : ℕ) (w : List ℕ) (ps : List Piece) where
 
 -- ---- the splice of a plan
 
--- what a plan holds, it has counted
-planned-holding : {P n : ℕ} {w : List ℕ} {ps : List Piece} {plan : Plan} → Planned P n w ps plan → Holding (plan .new) (held (plan .new))
-planned-holding {n = n} {w = w} {plan = plan} p =
+-- what a plan puts in, it has counted
+plan-counted : {P n : ℕ} {w : List ℕ} {ps : List Piece} {plan : Plan} → Planned P n w ps plan
+    → plan .count ≡ plan .from + length (newEntries (plan .new)) + (n - plan .to)
+plan-counted p =
     let e = simp (length-append, length-entries) at (ap length (p .filled)) in
-    record { pieces = refl; count = omega (arith, e, p .counted, p .count); few = p .few }
+    omega (arith, p .count)
 
-pub spliced-plan : {P M E n Q : ℕ} {w : List ℕ} {ps : List Piece} {plan : Plan} {r : ℕ} {v : List ℕ} → Sound P M E n w → Planned Q n w ps plan
-    → Spliced w n (plan .from) (plan .to) (plan .new) r v → TableOf (length w) (fill Q ps) r v
-spliced-plan {n = n} {Q = Q} {w = w} {ps = ps} {plan = plan} {r = r} {v = v} s p q =
+spliced-plan : {P M E n Q : ℕ} {w : List ℕ} {ps : List Piece} {plan : Plan} {v : List ℕ} → Sound P M E n w → Planned Q n w ps plan
+    → v ≡ spliced w n (plan .from) (plan .to) (newEntries (plan .new)) → v ≡ table (length w) (fill Q ps)
+spliced-plan {n = n} {Q = Q} {w = w} {ps = ps} {plan = plan} s p q =
     let es : List Piece = entries w 0 n in
     let l : length es ≡ n = length-entries w 0 n in
-    let t : TableOf (length w) es n w = record { count = sym l; words = sound-table s } in
     let fits : length es * entryWords ≤ length w = rw l (count-fits (s .ranges)) in
-    let new : List Piece = held (plan .new) in
-    let u = splice-replaces (length w) es n w (plan .from) (plan .to) new (plan .new) r v t fits (p .low) (p .high) (planned-holding p) q in
+    let t = spliced-table (length w) es (plan .from) (plan .to) (newEntries (plan .new)) fits (p .low) (rw l (p .high)) in
     let front = take-entries w (plan .from) n (omega (arith, p .low, p .high)) in
-    let e : take (plan .from) es ++ (new ++ drop (plan .to) es) ≡ fill Q ps = rw (front, drop-entries w (plan .to) n (p .high)) (p .filled) in
-    subst (λ (x : List Piece). TableOf (length w) x r v) e u
+    let back = drop-entries w (plan .to) n (p .high) in
+    q ∙ rw (front, back, p .filled, l, ← sound-table s) at t
 
 -- ---- a sound table lets a plan be made
 
@@ -78,9 +79,12 @@ plan-fits f low high =
     }
 
 -- the plan that is made is one for the new live pieces
-pub plan-right : {P E n i j : ℕ} {w : List ℕ} → SettleFits P E n i j w → (ps : List Piece) → length ps ≤ 1 → (plan : Plan)
-    → plan ≡ planFor P E n i j w ps → Planned P n w (livesWith w n i j ps) plan
-plan-right f ps one plan is = rw is (planned-for (plan-fits f (f .low) (f .high)) ps one)
+module _ {P E n i j : ℕ} {w : List ℕ} (f : SettleFits P E n i j w) (plan : Plan) where
+  pub right-without : plan ≡ planWithout P E n i j w → Planned P n w (livesWith w n i j []) plan
+  right-without is = rw is (planned-without (plan-fits f (f .low) (f .high)))
+
+  pub right-with : (x : Piece) → plan ≡ planWith P E n i j w x → Planned P n w (livesWith w n i j (x ∷ [])) plan
+  right-with x is = rw is (planned-with (plan-fits f (f .low) (f .high)) x)
 
 -- and can be carried out
 pub carry-fits : {P E n i j : ℕ} {w : List ℕ} {ps : List Piece} {plan : Plan} → SettleFits P E n i j w → Planned P n w ps plan → CarryFits n w plan
@@ -92,15 +96,14 @@ carry-fits {P = P} {E = E} f p =
       sound = f .sound;
       low = p .low;
       high = p .high;
-      few = p .few;
-      counted = p .counted;
+      counted = plan-counted p;
     }
 
 -- ---- the whole change
 
-pub carried : {P M E n : ℕ} {w : List ℕ} {plan : Plan} {r : ℕ} {v : List ℕ} → Sound P M E n w → (Q : ℕ) (ps : List Piece) → Planned Q n w ps plan
-    → Spliced w n (plan .from) (plan .to) (plan .new) r v → plan .count ≤ capacity (length w)
-    → settleSaid (Done (plan .end) r) v ≡ settledTable Q w ps
+pub carried : {P M E n : ℕ} {w : List ℕ} {plan : Plan} {v : List ℕ} → Sound P M E n w → (Q : ℕ) (ps : List Piece) → Planned Q n w ps plan
+    → v ≡ spliced w n (plan .from) (plan .to) (newEntries (plan .new)) → plan .count ≤ capacity (length w)
+    → settleSaid (Done (plan .end) (plan .count)) v ≡ settledTable Q w ps
 carried {w = w} s Q ps p q h =
     let t = spliced-plan s p q in
-    (λ i. settleSaid (Done (p .ends i) (t .count i)) (t .words i)) ∙ sym (settled-room Q w ps (omega (arith, p .count)))
+    (λ i. settleSaid (Done (p .ends i) (p .count i)) (t i)) ∙ sym (settled-room Q w ps (omega (arith, p .count)))

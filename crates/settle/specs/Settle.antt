@@ -16,7 +16,7 @@ use lib.Dec.{ltb}
 use lib.ListN.{length}
 use Rattle.change.specs.Change.{Planned}
 use Rattle.change.specs.declared.plan.Plan.{Plan}
-use Rattle.edit.specs.Edit.{mostPieces}
+use Rattle.edit.specs.New.{newEntries}
 use Rattle.pieces.specs.Words.{table}
 use Rattle.pieces.specs.declared.Piece.{Piece}
 use Rattle.settle.specs.declared.Settling.{Settling}
@@ -50,8 +50,7 @@ pub record CarryFits (n : ℕ) (w : List ℕ) (plan : Plan) : Type 0 where
   pub sound : Sound page limit end n w
   pub low : plan .from ≤ plan .to
   pub high : plan .to ≤ n
-  pub few : plan .new .count ≤ mostPieces
-  pub counted : plan .count ≡ plan .from + plan .new .count + (n - plan .to)
+  pub counted : plan .count ≡ plan .from + length (newEntries (plan .new)) + (n - plan .to)
 
 abbrev pub Carries : ℕ → List ℕ → Plan → Settling → List ℕ → Type 0
 Carries n w plan r v = (P : ℕ) (ps : List Piece) → Planned P n w ps plan → settleSaid r v ≡ settledTable P w ps

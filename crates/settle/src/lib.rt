@@ -27,8 +27,8 @@ fn carry_out(n: usize, table: &mut [u64], plan: Plan) -> Settling
     let from = plan.from;
     let to = plan.to;
     let new = plan.new;
-    let kept = edit::splice::splice(table, n, from, to, new);
-    Settling::Done(plan.end, kept as u64)
+    edit::splice::splice(table, n, from, to, new, count);
+    Settling::Done(plan.end, count as u64)
 }
 
 // Without the live pieces among the entries from i up to j.

@@ -18,7 +18,7 @@ same-length c = search needs
 
 returns-2 : tie.Need-returns-2
 returns-2 c =
-    let test = c .before .before .before .before .before in
+    let test = c .before .before .before .before in
     λ Q ps p. carried (test .before .before .pre .sound) Q ps p (c .before .before .splice .ensures) (test .if1 .left)
 
 pub carry-out-spec : {M : Type 1} → statement M

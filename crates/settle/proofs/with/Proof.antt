@@ -1,9 +1,8 @@
 -- `settle::with` meets its contract: the plan is one for the live pieces with the new one.
 -- Assumes nothing.
-use mathlib.Core.List.{[], _∷_}
 use native.Mathlib.Omega.{arith}
 use borrow.Author.Needs.{needs}
-use Rattle.settle.proofs.SettleLaws.{plan-fits, plan-right, carry-fits}
+use Rattle.settle.proofs.SettleLaws.{plan-fits, right-with, carry-fits}
 use Rattle.settle.proofs.with.Statement.{statement}
 use Rattle.settle.proofs.with.Tie as tie
 
@@ -14,7 +13,7 @@ carry-out-requires : tie.Need-carry-out-requires
 carry-out-requires c κs =
     let h = c .before .before .before .before .pre .0 in
     let piece = c .before .before .before .before .args .piece in
-    carry-fits h (plan-right h (piece ∷ []) (omega arith) _ (c .before .with .ensures))
+    carry-fits h (right-with h _ piece (c .before .with .ensures))
 
 same-length : tie.Need-same-length
 same-length c = search needs
@@ -23,7 +22,7 @@ returns : tie.Need-returns
 returns c =
     let h = c .before .before .before .before .before .before .before .pre .0 in
     let piece = c .before .before .before .before .before .before .before .args .piece in
-    c .before .before .carry-out .ensures _ _ (plan-right h (piece ∷ []) (omega arith) _ (c .before .before .before .before .with .ensures))
+    c .before .before .carry-out .ensures _ _ (right-with h _ piece (c .before .before .before .before .with .ensures))
 
 pub with-spec : {M : Type 1} → statement M
 with-spec = tie.close (tie.spec with-requires carry-out-requires same-length returns)

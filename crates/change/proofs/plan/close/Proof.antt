@@ -5,11 +5,11 @@ use Rattle.change.proofs.PlanLaws.{closing-next, closing-none}
 use Rattle.change.proofs.plan.close.Statement.{statement}
 use Rattle.change.proofs.plan.close.Tie as tie
 
-with-tail-requires : tie.Need-with-tail-requires
-with-tail-requires c κs = search needs
+tail-of-requires : tie.Need-tail-of-requires
+tail-of-requires c κs = search needs
 
 returns : tie.Need-returns
-returns c = rw (closing-none _ _ _ _ _ _ (c .before .if1 .taken)) (c .with-tail .ensures)
+returns c = rw (closing-none _ _ _ _ _ _ (c .before .if1 .taken)) (c .tail-of .ensures)
 
 piece-at-requires : tie.Need-piece-at-requires
 piece-at-requires c κs = search needs
@@ -17,22 +17,22 @@ piece-at-requires c κs = search needs
 class-of-requires : tie.Need-class-of-requires
 class-of-requires c κs = search needs
 
-with-gap-requires : tie.Need-with-gap-requires
-with-gap-requires c κs = search needs
+gap-of-requires : tie.Need-gap-of-requires
+gap-of-requires c κs = search needs
 
 returns-2 : tie.Need-returns-2
 returns-2 c =
     let among = c .before .before .before .if1 .left in
     let read = c .before .before .piece-at .ensures in
-    rw (closing-next _ _ _ _ _ _ _ among read, ← c .before .class-of .ensures) (c .with-gap .ensures)
+    rw (closing-next _ _ _ _ _ _ _ among read, ← c .before .class-of .ensures) (c .gap-of .ensures)
 
 pub close-spec : {M : Type 1} → statement M
 close-spec =
     tie.close
     (tie.spec
-    with-tail-requires
+    tail-of-requires
     returns
     piece-at-requires
     class-of-requires
-    with-gap-requires
+    gap-of-requires
     returns-2)

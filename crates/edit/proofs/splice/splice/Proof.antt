@@ -1,42 +1,33 @@
 -- `edit::splice::splice` meets its contract: the entries behind make room, then the new ones are laid into it.
 -- Assumes nothing.
-use mathlib.Core.Path.{_≡_}
-use lib.ListN.{length}
 use borrow.Author.Needs.{needs}
 use Rattle.edit.proofs.EditLaws.{splice-right}
-use Rattle.edit.proofs.SliceLaws.{length-mapped}
-use Rattle.edit.specs.Edit.{mostPieces}
 use Rattle.edit.proofs.splice.splice.Statement.{statement}
 use Rattle.edit.proofs.splice.splice.Tie as tie
 
-add-a : tie.Need-add-a
-add-a c = search needs
+sub-a : tie.Need-sub-a
+sub-a c = search needs
+
+sub-a-2 : tie.Need-sub-a-2
+sub-a-2 c = search needs
 
 shift-requires : tie.Need-shift-requires
 shift-requires c κs = search needs
 
-put-all-requires : tie.Need-put-all-requires
-put-all-requires c κs = search needs
-
-sub-result : tie.Need-sub-result
-sub-result c = search needs
-
-add-result : tie.Need-add-result
-add-result c = search needs
+put-new-requires : tie.Need-put-new-requires
+put-new-requires c κs = search needs
 
 same-length : tie.Need-same-length
 same-length c = search needs
 
 returns : tie.Need-returns
 returns c =
-    let a = c .before .before .before .before .before .before .before .before .before .before .args in
-    let fits = c .before .before .before .before .before .before .before .before .before .before .pre in
-    let all : length (a .new .list) ≡ mostPieces = search (needs, length-mapped) in
+    let start = c .before .before .before .before .before .before .before .before .before in
+    let a = start .args in
     let shifted = c .before .before .before .before .before .before .shift .ensures in
-    let laid = c .before .before .put-all .ensures in
-    splice-right (a .table .now) (a .n) (a .i) (a .j) (a .new) _ _ fits all shifted laid
+    splice-right (a .table .now) (a .n) (a .i) (a .j) (a .new) (a .count) _ _ (start .pre) shifted (c .before .before .put-new .ensures)
 
 pub splice-spec : {M : Type 1} → statement M
 splice-spec =
     tie.close
-    (tie.spec add-a shift-requires put-all-requires sub-result add-result same-length returns)
+    (tie.spec sub-a sub-a-2 shift-requires put-new-requires same-length returns)
