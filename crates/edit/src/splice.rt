@@ -1,7 +1,5 @@
 // Entries of a lent table replaced in place: those behind them move up or down, the new ones are laid, and what is left over becomes 0.
 ghost use mathlib.Core.Path.{_≡_};
-ghost use Prim.Native.Nat.{_+_, _*_, _≤_};
-ghost use lib.ListN.{length};
 ghost use Rattle.edit.specs.New.{newEntries};
 ghost use Rattle.edit.specs.Edit.{ShiftFits, shifted, SpliceFits, spliced};
 use crate::moves::clear;

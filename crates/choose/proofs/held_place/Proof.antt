@@ -1,7 +1,6 @@
 -- `choose::held_place` meets its contract: each return is the definition after the test.
 -- Assumes nothing.
 use mathlib.Core.Path.{sym, ap, _∙_}
-use borrow.Author.Needs.{needs}
 use Rattle.choose.proofs.WalkLaws.{holding-at, holding-none}
 use Rattle.choose.specs.declared.Chosen.the-variants.{At}
 use Rattle.choose.proofs.held_place.Statement.{statement}
