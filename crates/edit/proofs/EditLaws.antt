@@ -16,7 +16,7 @@ use Rattle.pieces.proofs.WordLaws.{length-words, words-append, words-take, word
 use Rattle.edit.specs.declared.new.New.{New}
 use Rattle.edit.specs.New.{newEntries}
 use Rattle.edit.specs.Edit.{spliced, SpliceFits, shifted, ShiftFits, SplicedTable}
-use Rattle.edit.proofs.MoveLaws.{up-moved, down-moved}
+use Rattle.moves.proofs.MoveLaws.{up-moved, down-moved}
 
 -- entries that stay at their place: nothing is to be done
 pub shift-none : (w : List ℕ) (n a j : ℕ) → ShiftFits w n a j → a ≡ j → w ≡ shifted w n a j

@@ -1,5 +1,3 @@
 -- The laws that the proofs of this and of the higher crates cite.
-pub mod SliceLaws
-pub mod MoveLaws
 pub mod NewLaws
 pub mod EditLaws

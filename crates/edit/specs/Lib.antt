@@ -1,4 +1,3 @@
 -- What the contracts of `edit` cite, and what is proved of it.
-pub mod Moves
 pub mod New
 pub mod Edit

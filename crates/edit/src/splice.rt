@@ -2,11 +2,11 @@
 ghost use mathlib.Core.Path.{_≡_};
 ghost use Rattle.edit.specs.New.{newEntries};
 ghost use Rattle.edit.specs.Edit.{ShiftFits, shifted, SpliceFits, spliced};
-use crate::moves::clear;
-use crate::moves::move_down;
-use crate::moves::move_up;
 use crate::new::New;
 use crate::new::put_new;
+use moves::clear;
+use moves::move_down;
+use moves::move_up;
 use pieces::ENTRY_WORDS;
 
 // Entries j up to n go to entry a on, and every word behind them is 0.

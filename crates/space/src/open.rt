@@ -16,7 +16,7 @@ fn clear(table: &mut [u64])
     ensures { λ _. ⌜ now (table .exit) ≡ replicate (length (now (table .entry))) 0 ⌝ }
 {
     let len = table.len();
-    edit::moves::clear(table, 0, len);
+    moves::clear(table, 0, len);
 }
 
 impl Space {

@@ -15,7 +15,7 @@ use lib.ListN.{length, take, drop, getD, set, replicate, length-take, length-dro
 use lib.ListN.{replicate-append-replicate}
 use lib.Seq.{paste, paste-zero, paste-suc, take-paste, drop-paste, getD-drop, take-all, take-take, take-add, take-append-le, drop-drop, drop-at}
 use lib.Seq.{length-take-le, length-paste}
-use Rattle.edit.proofs.SliceLaws.{drop-replicate, part-front}
+use Rattle.moves.proofs.SliceLaws.{drop-replicate, part-front}
 
 -- ---- words loaded, then stored
 

@@ -1,26 +1,24 @@
--- `edit::moves::words_up` meets its contract: a word is read before the copy, which goes down and writes above it, reaches it.
+-- `moves::words_down` meets its contract: a word is read before the copy, which writes below it, reaches it.
 -- Assumes nothing.
 use Prim.Native.Nat.{ℕ, _≤_, _-_, _+_}
 use mathlib.Core.Path.{_≡_, refl, ap, _∙_}
 use native.Mathlib.Omega.{arith}
-use lib.ListN.{length, length-set}
+use lib.ListN.{length, drop, length-set}
+use lib.Seq.{paste, paste-zero}
 use borrow.Author.Needs.{needs}
-use Rattle.edit.proofs.MoveLaws.{stored-pasted, rising, rising-next, rising-none, rising-all}
-use Rattle.edit.proofs.moves.words_up.Statement.{statement}
-use Rattle.edit.proofs.moves.words_up.Tie as tie
+use Rattle.moves.proofs.MoveLaws.{stored-pasted, down-more}
+use Rattle.moves.proofs.words_down.Statement.{statement}
+use Rattle.moves.proofs.words_down.Tie as tie
 
 abbrev Inv-loop : tie.InvT-loop
 Inv-loop table₀ to from len k₀ table k =
-    (k ≤ len) × (length table ≡ length table₀) × (table ≡ rising table₀ to from len k)
+    (k ≤ len) × (length table ≡ length table₀) × (table ≡ paste table₀ to (drop from table₀) k)
 
 abbrev μ-loop : tie.MeasureT-loop
-μ-loop table₀ to from len k₀ table k = k
+μ-loop table₀ to from len k₀ table k = len - k
 
 loop-holds : tie.Need-loop-holds Inv-loop μ-loop
-loop-holds c = (search needs, refl, rising-all (c .args .table .now) (c .args .to) (c .args .from) (c .args .len))
-
-sub-k : tie.Need-sub-k Inv-loop μ-loop
-sub-k c = search needs
+loop-holds c = (search needs, refl, paste-zero (c .args .table .now) (c .args .to) (drop (c .args .from) (c .args .table .now)))
 
 add-table : tie.Need-add-table Inv-loop μ-loop
 add-table c = search needs
@@ -40,6 +38,9 @@ mul-table-2 c = search needs
 slice-write-table : tie.Need-slice-write-table Inv-loop μ-loop
 slice-write-table c = search needs
 
+add-k : tie.Need-add-k Inv-loop μ-loop
+add-k c = search needs
+
 loop-less : tie.Need-loop-less Inv-loop μ-loop
 loop-less c = search needs
 
@@ -48,13 +49,10 @@ loop-again c =
     let a = c .before .before .before .args in
     let pre = c .before .before .before .pre in
     let l = c .before .before .loop in
-    let k : ℕ = l .k - 1 in
-    let e : l .k ≡ k + 1 = omega arith in
-    let is = l .inv .2 ∙ ap (rising (a .table .now) (a .to) (a .from) (a .len)) e in
-    let word = stored-pasted (l .table) (a .to + k) (a .from + k) 1 (omega arith) (omega arith) in (
+    let word = stored-pasted (l .table) (a .to + l .k) (a .from + l .k) 1 (omega arith) (omega arith) in (
       search needs,
       simp length-set (l .inv .1),
-      rising-next (a .table .now) (a .to) (a .from) (a .len) k 1 (l .table) _ (pre .0) (pre .1) (omega arith) is word,
+      down-more (a .table .now) (a .to) (a .from) (l .k) 1 (l .k + 1) refl (l .table) _ (pre .0) (omega arith) (l .inv .2) word,
     )
 
 same-length : tie.Need-same-length Inv-loop μ-loop
@@ -64,25 +62,23 @@ returns : tie.Need-returns Inv-loop μ-loop
 returns c =
     let a = c .before .before .args in
     let l = c .before .loop in
-    let e : l .k ≡ 0 = omega arith in
-    l .inv .2
-    ∙ ap (rising (a .table .now) (a .to) (a .from) (a .len)) e
-    ∙ rising-none (a .table .now) (a .to) (a .from) (a .len)
+    let e : l .k ≡ a .len = omega arith in
+    l .inv .2 ∙ ap (λ (k : ℕ). paste (a .table .now) (a .to) (drop (a .from) (a .table .now)) k) e
 
-pub words-up-spec : {M : Type 1} → statement M
-words-up-spec =
+pub words-down-spec : {M : Type 1} → statement M
+words-down-spec =
     tie.close
     (tie.spec
     Inv-loop
     μ-loop
     loop-holds
-    sub-k
     add-table
     mul-table
     slice-read-table
     add-table-2
     mul-table-2
     slice-write-table
+    add-k
     loop-less
     loop-again
     same-length

@@ -4,4 +4,4 @@
 use Prim.Native.Nat.{ℕ}
 
 abbrev pub moveBlock : ℕ
-moveBlock = 8
+moveBlock = 4

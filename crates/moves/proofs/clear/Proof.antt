@@ -1,4 +1,4 @@
--- `edit::moves::clear` meets its contract: after k turns the first k words are 0.
+-- `moves::clear` meets its contract: after k turns the first k words are 0.
 -- Assumes nothing.
 use Prim.Native.Nat.{ℕ, _≤_, _-_}
 use mathlib.Core.Path.{_≡_, refl, ap, _∙_}
@@ -6,9 +6,9 @@ use native.Mathlib.Omega.{arith}
 use lib.ListN.{length, replicate, length-set}
 use lib.Seq.{paste, paste-zero}
 use borrow.Author.Needs.{needs}
-use Rattle.edit.proofs.MoveLaws.{clear-next}
-use Rattle.edit.proofs.moves.clear.Statement.{statement}
-use Rattle.edit.proofs.moves.clear.Tie as tie
+use Rattle.moves.proofs.MoveLaws.{clear-next}
+use Rattle.moves.proofs.clear.Statement.{statement}
+use Rattle.moves.proofs.clear.Tie as tie
 
 abbrev Inv-loop : tie.InvT-loop
 Inv-loop table₀ from len k₀ table k =

@@ -1,12 +1,12 @@
--- `edit::moves::move_up` meets its contract: whole blocks at the end go up, then the words before them.
+-- `moves::move_up` meets its contract: whole blocks at the end go up, then the words before them.
 -- Assumes nothing.
 use Prim.Native.Nat.{ℕ, _-_, _*_, _/_}
 use native.Mathlib.Omega.{arith}
 use borrow.Author.Needs.{needs}
-use Rattle.edit.proofs.MoveLaws.{up-more}
-use Rattle.edit.specs.Moves.{moveBlock}
-use Rattle.edit.proofs.moves.move_up.Statement.{statement}
-use Rattle.edit.proofs.moves.move_up.Tie as tie
+use Rattle.moves.proofs.MoveLaws.{up-more}
+use Rattle.moves.specs.Moves.{moveBlock}
+use Rattle.moves.proofs.move_up.Statement.{statement}
+use Rattle.moves.proofs.move_up.Tie as tie
 
 mul-left : tie.Need-mul-left
 mul-left c = search needs

@@ -1,14 +1,14 @@
--- `edit::moves::blocks_up` meets its contract: a block is read before the copy, which goes down and writes above it, reaches it.
+-- `moves::blocks_up` meets its contract: a block is read before the copy, which goes down and writes above it, reaches it.
 -- Assumes nothing.
 use Prim.Native.Nat.{ℕ, _≤_, _-_, _+_, _*_}
 use mathlib.Core.Path.{_≡_, refl, ap, _∙_}
 use native.Mathlib.Omega.{arith}
 use lib.ListN.{length}
 use borrow.Author.Needs.{needs}
-use Rattle.edit.proofs.MoveLaws.{rising, rising-next, rising-none, rising-all}
-use Rattle.edit.specs.Moves.{moveBlock}
-use Rattle.edit.proofs.moves.blocks_up.Statement.{statement}
-use Rattle.edit.proofs.moves.blocks_up.Tie as tie
+use Rattle.moves.proofs.MoveLaws.{rising, rising-next, rising-none, rising-all}
+use Rattle.moves.specs.Moves.{moveBlock}
+use Rattle.moves.proofs.blocks_up.Statement.{statement}
+use Rattle.moves.proofs.blocks_up.Tie as tie
 
 abbrev Inv-loop : tie.InvT-loop
 Inv-loop table₀ to from blocks k₀ table k =

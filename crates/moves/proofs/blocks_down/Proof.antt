@@ -1,4 +1,4 @@
--- `edit::moves::blocks_down` meets its contract: a block is read before the copy, which writes below it, reaches it.
+-- `moves::blocks_down` meets its contract: a block is read before the copy, which writes below it, reaches it.
 -- Assumes nothing.
 use Prim.Native.Nat.{ℕ, _≤_, _-_, _+_, _*_}
 use mathlib.Core.Path.{_≡_, refl, ap, _∙_}
@@ -6,10 +6,10 @@ use native.Mathlib.Omega.{arith}
 use lib.ListN.{length, drop}
 use lib.Seq.{paste, paste-zero}
 use borrow.Author.Needs.{needs}
-use Rattle.edit.proofs.MoveLaws.{down-more}
-use Rattle.edit.specs.Moves.{moveBlock}
-use Rattle.edit.proofs.moves.blocks_down.Statement.{statement}
-use Rattle.edit.proofs.moves.blocks_down.Tie as tie
+use Rattle.moves.proofs.MoveLaws.{down-more}
+use Rattle.moves.specs.Moves.{moveBlock}
+use Rattle.moves.proofs.blocks_down.Statement.{statement}
+use Rattle.moves.proofs.blocks_down.Tie as tie
 
 abbrev Inv-loop : tie.InvT-loop
 Inv-loop table₀ to from blocks k₀ table k =

@@ -3,9 +3,9 @@ ghost use mathlib.Core.Path.{_≡_};
 ghost use Prim.Native.Nat.{_+_, _*_, _≤_};
 ghost use lib.ListN.{length, drop, replicate};
 ghost use lib.Seq.{paste};
-ghost use Rattle.edit.specs.Moves.{moveBlock};
+ghost use Rattle.moves.specs.Moves.{moveBlock};
 
-const BLOCK: usize = 8;
+const BLOCK: usize = 4;
 
 // The block from `from` on goes to `to`, up or down. All its words are loaded before the first is stored: so overlap is harmless, and the
 // compiler makes moves of 16 bytes of them.
@@ -17,18 +17,10 @@ fn move_block(table: &mut [u64], to: usize, from: usize)
     let b = table[from + 1];
     let c = table[from + 2];
     let d = table[from + 3];
-    let e = table[from + 4];
-    let f = table[from + 5];
-    let g = table[from + 6];
-    let h = table[from + 7];
     table[to] = a;
     table[to + 1] = b;
     table[to + 2] = c;
     table[to + 3] = d;
-    table[to + 4] = e;
-    table[to + 5] = f;
-    table[to + 6] = g;
-    table[to + 7] = h;
 }
 
 // So many blocks from `from` on go down to `to`, the first first.

@@ -1,12 +1,12 @@
--- `edit::moves::move_down` meets its contract: whole blocks go down, then the words behind them.
+-- `moves::move_down` meets its contract: whole blocks go down, then the words behind them.
 -- Assumes nothing.
 use Prim.Native.Nat.{ℕ, _-_, _*_, _/_}
 use native.Mathlib.Omega.{arith}
 use borrow.Author.Needs.{needs}
-use Rattle.edit.proofs.MoveLaws.{down-more}
-use Rattle.edit.specs.Moves.{moveBlock}
-use Rattle.edit.proofs.moves.move_down.Statement.{statement}
-use Rattle.edit.proofs.moves.move_down.Tie as tie
+use Rattle.moves.proofs.MoveLaws.{down-more}
+use Rattle.moves.specs.Moves.{moveBlock}
+use Rattle.moves.proofs.move_down.Statement.{statement}
+use Rattle.moves.proofs.move_down.Tie as tie
 
 mul-moved : tie.Need-mul-moved
 mul-moved c = search needs

@@ -1,0 +1,2 @@
+-- What the contracts of `moves` cite.
+pub mod Moves
