@@ -3,7 +3,7 @@
 -- In this order: the entries behind the place kept, moved up, moved down; the new ones laid over that; both together; `spliced-table`, the
 -- statement SplicedTable of specs/Edit.antt.
 --
--- Not here: laws of the moves' loops (MoveLaws), of laid pieces (WordLaws of `pieces`). Assumes nothing.
+-- Not here: laws of the moves' loops (MoveLaws of `moves`), of laid pieces (WordLaws of `pieces`). Assumes nothing.
 use mathlib.Core.Path.{_≡_, sym, _∙_}
 use mathlib.Core.List.{List, _++_, append-assoc}
 use Prim.Native.Nat.{ℕ, _+_, _-_, _*_, _≤_, _<_}

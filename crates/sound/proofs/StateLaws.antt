@@ -57,35 +57,22 @@ module _ (P : ℕ) (pos : 0 < P) (a : ℕ) where
 abbrev besideOf : Bool → Status → Status → Bool
 besideOf b s t = cond b (not (largeFreeb s && largeFreeb t)) (sameClass (classOf s) (classOf t) && not (freeb s && freeb t))
 
-state-border : (b : Bool) (s : Status) → borderStateb (stateOf b (kindOf s)) ≡ b
+-- by cases: whether it stands at a border, and whether a free large entry may follow
+state-says : (b : Bool) (s : Status)
+    → (borderStateb (stateOf b (kindOf s)) ≡ b) × (freeLargeFollowsb (stateOf b (kindOf s)) ≡ besideOf b s (Free Large))
 unfolding stateOf
-state-border true (Live SmallMetadata) = refl
-state-border true (Live SmallRaw) = refl
-state-border true (Live Large) = refl
-state-border true (Free SmallMetadata) = refl
-state-border true (Free SmallRaw) = refl
-state-border true (Free Large) = refl
-state-border false (Live SmallMetadata) = refl
-state-border false (Live SmallRaw) = refl
-state-border false (Live Large) = refl
-state-border false (Free SmallMetadata) = refl
-state-border false (Free SmallRaw) = refl
-state-border false (Free Large) = refl
-
-state-free-large : (b : Bool) (s : Status) → freeLargeFollowsb (stateOf b (kindOf s)) ≡ besideOf b s (Free Large)
-unfolding stateOf
-state-free-large true (Live SmallMetadata) = refl
-state-free-large true (Live SmallRaw) = refl
-state-free-large true (Live Large) = refl
-state-free-large true (Free SmallMetadata) = refl
-state-free-large true (Free SmallRaw) = refl
-state-free-large true (Free Large) = refl
-state-free-large false (Live SmallMetadata) = refl
-state-free-large false (Live SmallRaw) = refl
-state-free-large false (Live Large) = refl
-state-free-large false (Free SmallMetadata) = refl
-state-free-large false (Free SmallRaw) = refl
-state-free-large false (Free Large) = refl
+state-says true (Live SmallMetadata) = (refl, refl)
+state-says true (Live SmallRaw) = (refl, refl)
+state-says true (Live Large) = (refl, refl)
+state-says true (Free SmallMetadata) = (refl, refl)
+state-says true (Free SmallRaw) = (refl, refl)
+state-says true (Free Large) = (refl, refl)
+state-says false (Live SmallMetadata) = (refl, refl)
+state-says false (Live SmallRaw) = (refl, refl)
+state-says false (Live Large) = (refl, refl)
+state-says false (Free SmallMetadata) = (refl, refl)
+state-says false (Free SmallRaw) = (refl, refl)
+state-says false (Free Large) = (refl, refl)
 
 pub state-most : (b : Bool) (s : Status) → stateOf b (kindOf s) ≤ behindFreeLarge
 unfolding stateOf
@@ -104,8 +91,8 @@ small-not (Free c) h = rw h
 
 small-follows : (b : Bool) (s t : Status) → smallb (classOf t) ≡ true → smallFollowsb (stateOf b (kindOf s)) (kindOf t) ≡ besideOf b s t
 unfolding smallFollowsb stateOf
-small-follows true s t h = rw (status-kind t, h, state-border true s, small-not t h, and-false (largeFreeb s))
-small-follows false s t h = rw (status-kind t, h, state-border false s, status-kind s)
+small-follows true s t h = rw (status-kind t, h, state-says true s .0, small-not t h, and-false (largeFreeb s))
+small-follows false s t h = rw (status-kind t, h, state-says false s .0, status-kind s)
 
 small-large : (P st : ℕ) (t : Status) (z : ℕ) (last : Bool) → smallb (classOf t) ≡ true → largeRulesb P st (kindOf t) z last ≡ false
 unfolding largeRulesb
@@ -149,7 +136,7 @@ module _ (P : ℕ) (s : Status) (a z : ℕ) (last : Bool) where
 
   rules-live : rulesb P s a (Live Large) z last ≡ liveLargeb P (stateAt P a s) z
   unfolding liveLargeb shapeb besideb
-  rules-live = rw (cut-other P (Live Large) z last refl, state-border (borderb P a) s) (go (borderb P a))
+  rules-live = rw (cut-other P (Live Large) z last refl, state-says (borderb P a) s .0) (go (borderb P a))
     where
       go : (b : Bool) → ((b && leb P z) && (besideOf b s (Live Large) && true)) ≡ (leb P z && b)
       go true = rw (and-false (largeFreeb s))
@@ -157,7 +144,7 @@ module _ (P : ℕ) (s : Status) (a z : ℕ) (last : Bool) where
 
   rules-free : rulesb P s a (Free Large) z last ≡ freeLargeb P (stateAt P a s) z last
   unfolding freeLargeb shapeb besideb
-  rules-free = rw (cut-free P z last, state-free-large (borderb P a) s)
+  rules-free = rw (cut-free P z last, state-says (borderb P a) s .1)
 
 -- ---- one step
 
