@@ -1,7 +1,7 @@
 -- The laws of numbers in bytes, over the width.
 --
 -- In this order: parts of bytes are bytes; `little` of one byte more, and its bound; `bytesOf` and how it and `little` undo each other; the
--- same of several numbers; parts at places; one number more, as a loop over several goes on.
+-- same of several numbers; parts at places; several numbers in parts; one number more, as a loop over several goes on.
 --
 -- Not here: laws of lists (lib.Seq), of `/`, `%` and `^` (native.Mathlib.Nat). Assumes nothing.
 use Prim.Native.Nat.{ℕ, zero, suc, _+_, _-_, _*_, _/_, _%_, _^_, _≤_, _<_, zero-le}
@@ -11,7 +11,7 @@ use native.Mathlib.Nat.{sub-zero, zero-sub, suc-sub-suc, lt-of-lt-of-le, pow-suc
 use native.Mathlib.Numerals.{add-one}
 use native.Mathlib.Omega.{arith}
 use lib.Dec.{lit<}
-use lib.ListN.{length, take, drop, getD, set, length-append, length-take, length-drop, take-append-drop, drop-of-length-le}
+use lib.ListN.{length, take, drop, getD, set, replicate, length-append, length-take, length-drop, take-append-drop, drop-of-length-le}
 use lib.Seq.{drop-cons, length-take-le, take-all, take-suc, take-suc-set, append-snoc, getD-drop, take-at, drop-at, drop-append-add}
 use lib.Seq.{drop-drop, set-split, take-take, take-add, take-nil}
 use borrow.Rule.Slice.PartMut.{putMid, post-is}
@@ -25,14 +25,21 @@ pow-pos w = let p : byteValues ^ 0 ≤ byteValues ^ w = pow-le-pow-right (lit< t
 pub bytes-tail : (b : ℕ) (bs : List ℕ) → Bytes (b ∷ bs) → Bytes bs
 bytes-tail b bs h i = h (suc i)
 
+-- what is below a bound in a list is so behind its front, and in it
+below-drop-at : (m n : ℕ) (vs : List ℕ) → ((i : ℕ) → getD vs i 0 < m) → (i : ℕ) → getD (drop n vs) i 0 < m
+below-drop-at m n vs h i = rw (getD-drop n vs i 0) (h (n + i))
+
+below-take-at : (m : ℕ) → 0 < m → (n : ℕ) (vs : List ℕ) → ((i : ℕ) → getD vs i 0 < m) → (i : ℕ) → getD (take n vs) i 0 < m
+below-take-at m p zero vs h i = p
+below-take-at m p (suc n) [] h i = p
+below-take-at m p (suc n) (v ∷ vs) h zero = h zero
+below-take-at m p (suc n) (v ∷ vs) h (suc i) = below-take-at m p n vs (λ j. h (suc j)) i
+
 pub bytes-drop : (n : ℕ) (bs : List ℕ) → Bytes bs → Bytes (drop n bs)
-bytes-drop n bs h i = rw (getD-drop n bs i 0) (h (n + i))
+bytes-drop = below-drop-at byteValues
 
 pub bytes-take : (n : ℕ) (bs : List ℕ) → Bytes bs → Bytes (take n bs)
-bytes-take zero bs h i = lit< tt
-bytes-take (suc n) [] h i = lit< tt
-bytes-take (suc n) (b ∷ bs) h zero = h zero
-bytes-take (suc n) (b ∷ bs) h (suc i) = bytes-take n bs (bytes-tail b bs h) i
+bytes-take = below-take-at byteValues (lit< tt)
 
 -- ---- one number
 
@@ -114,6 +121,22 @@ bytes-bytesOf (suc w) v (suc i) = bytes-bytesOf w (v / byteValues) i
 
 pub below-tail : (w v : ℕ) (vs : List ℕ) → Below w (v ∷ vs) → Below w vs
 below-tail w v vs h i = h (suc i)
+
+pub below-take : (w n : ℕ) (vs : List ℕ) → Below w vs → Below w (take n vs)
+below-take w = below-take-at (byteValues ^ w) (pow-pos w)
+
+pub below-drop : (w n : ℕ) (vs : List ℕ) → Below w vs → Below w (drop n vs)
+below-drop w = below-drop-at (byteValues ^ w)
+
+pub below-replicate : (w n v : ℕ) → v < byteValues ^ w → Below w (replicate n v)
+below-replicate w zero v h i = pow-pos w
+below-replicate w (suc n) v h zero = h
+below-replicate w (suc n) v h (suc i) = below-replicate w n v h i
+
+pub below-append : (w : ℕ) (vs us : List ℕ) → Below w vs → Below w us → Below w (vs ++ us)
+below-append w [] us h k i = k i
+below-append w (v ∷ vs) us h k zero = h zero
+below-append w (v ∷ vs) us h k (suc i) = below-append w vs us (below-tail w v vs h) k i
 
 pub length-numbers : (w n : ℕ) (bs : List ℕ) → length (numbers w n bs) ≡ n
 unfolding numbers
@@ -238,6 +261,33 @@ pub laid-number : {b p c : List ℕ} {from : ℕ} → Laid b p c from → (to v 
     → d ≡ laid from to (bytesOf (to - from) v) c → Laid b (p ++ bytesOf (to - from) v) d to
 laid-number {from = from} s to v h e = laid-next s to (bytesOf (to - from) v) (length-bytesOf (to - from) v) h e
 
+-- ---- several numbers, in parts
+
+-- only the bytes of the numbers count
+numbers-take : (w n : ℕ) (bs : List ℕ) → numbers w n (take (n * w) bs) ≡ numbers w n bs
+unfolding numbers
+numbers-take w zero bs = refl
+numbers-take w (suc n) bs =
+    let h : w ≤ suc n * w = omega arith in
+    let m : suc n * w - w ≡ n * w = omega arith in
+    rw (take-take w (suc n * w) bs h, drop-take w (suc n * w) bs, m, numbers-take w n (drop w bs))
+
+pub numbers-part : (w n from : ℕ) (b : List ℕ) → numbers w n (part from (from + n * w) b) ≡ numbers w n (drop from b)
+numbers-part w n from b = let e : from + n * w - from ≡ n * w = omega arith in rw e (numbers-take w n (drop from b))
+
+pub numbers-add : (w n m : ℕ) (bs : List ℕ) → numbers w (n + m) bs ≡ numbers w n bs ++ numbers w m (drop (n * w) bs)
+unfolding numbers
+numbers-add w zero m bs = let e : 0 + m ≡ m = omega arith in let z : 0 * w ≡ 0 = omega arith in rw (e, z)
+numbers-add w (suc n) m bs =
+    let e : suc n + m ≡ suc (n + m) = omega arith in
+    let d : w + n * w ≡ suc n * w = omega arith in
+    rw (e, numbers-add w n m (drop w bs), drop-drop (n * w) w bs, d)
+
+pub bytesOfAll-append : (w : ℕ) (vs us : List ℕ) → bytesOfAll w (vs ++ us) ≡ bytesOfAll w vs ++ bytesOfAll w us
+unfolding bytesOfAll
+bytesOfAll-append w [] us = refl
+bytesOfAll-append w (v ∷ vs) us = rw (bytesOfAll-append w vs us) (sym (append-assoc (bytesOf w v) (bytesOfAll w vs) (bytesOfAll w us)))
+
 -- ---- one number more, of several
 
 width-at : (i w : ℕ) → i * w + w - i * w ≡ w
@@ -268,11 +318,6 @@ numbers-end w n i found bs h l e =
     let m : length found ≤ i = omega arith in
     let k : length (numbers w n bs) ≤ i = simp length-numbers h in
     sym (take-all i found m) ∙ e ∙ take-all i (numbers w n bs) k
-
-bytesOfAll-append : (w : ℕ) (vs us : List ℕ) → bytesOfAll w (vs ++ us) ≡ bytesOfAll w vs ++ bytesOfAll w us
-unfolding bytesOfAll
-bytesOfAll-append w [] us = refl
-bytesOfAll-append w (v ∷ vs) us = rw (bytesOfAll-append w vs us) (sym (append-assoc (bytesOf w v) (bytesOfAll w vs) (bytesOfAll w us)))
 
 bytesOfAll-one : (w v : ℕ) → bytesOfAll w (v ∷ []) ≡ bytesOf w v
 unfolding bytesOfAll
