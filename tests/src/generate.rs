@@ -6,9 +6,9 @@
 //! Every call on a space is followed by `show words`, but for those that fill a wide table.
 
 use crate::draw::Draw;
-use crate::message::{self, Fields, UNDEFINED};
+use crate::message::{bytes_of, Fields, ABSENT, FULL_LENGTH, HEAD_LENGTH, UNDEFINED};
 use crate::model::{self, table_of, Entry, Model, State, ENTRY_WORDS, FREE_LARGE, LARGEST_LIMIT, LARGEST_PAGE};
-use crate::script::{hex_of, joined, show_words, state_line, words_line, Machine, MOST_WORDS};
+use crate::script::{read_line, show_words, state_line, words_line, write_line, Machine, MOST_WORDS};
 
 const PAGES: [u64; 9] = [512, 512, 513, 1_000, 1_000, 1_023, 4_096, 65_536, LARGEST_PAGE];
 
@@ -115,8 +115,8 @@ impl Author<'_> {
     fn messages(&mut self) {
         for _ in 0..12 {
             let fields = self.fields();
-            let (lent, room) = (self.lent_message(&fields), self.room());
-            self.say(format!("read {}", hex_of(&lent)));
+            let (lent, room) = (self.lent_message(&fields), self.room(&fields));
+            self.say(read_line(&lent));
             self.say(write_line(&fields, room));
         }
     }
@@ -437,9 +437,8 @@ impl Author<'_> {
     /// Fields that keep their rules, but for one in a third of the cases.
     fn fields(&mut self) -> Fields {
         let persist = self.draw.below(2) as u8;
-        let mut addresses = || if persist == 1 { self.address() } else { UNDEFINED };
-        let small = std::array::from_fn(|_| addresses());
-        let large = std::array::from_fn(|_| addresses());
+        let mut addresses = || if persist == 1 { std::array::from_fn(|_| self.address()) } else { ABSENT };
+        let (small, large) = (addresses(), addresses());
         let mut fields = Fields {
             strategy: self.draw.below(4) as u8,
             persist,
@@ -473,30 +472,36 @@ impl Author<'_> {
         }
     }
 
-    /// A message's bytes in a lent part: cut short, with bytes behind it, or with one byte changed.
+    /// A message's bytes in a lent part: whole or cut short, with ones or any bytes behind it; a byte is changed in a third of the cases.
     fn lent_message(&mut self, fields: &Fields) -> Vec<u8> {
-        let mut lent = message::bytes_of(fields);
+        let mut lent = bytes_of(fields);
+        let (length, ones) = (self.room(fields), self.draw.once_in(2));
+        lent.resize_with(length as usize, || if ones { u8::MAX } else { self.draw.word() as u8 });
         if self.draw.once_in(3) {
-            let any = self.draw.below(message::LENGTH as u64) as usize;
-            let i = self.draw.pick(&[0, 1, 2, any]);
-            lent[i] = self.draw.word() as u8;
+            self.damage_a_byte(&mut lent);
         }
-        let length = match self.draw.below(6) {
-            0 => self.draw.below(message::LENGTH as u64 + 1) as usize,
-            1 => message::LENGTH - 1,
-            2 => message::LENGTH + self.draw.below(300) as usize,
-            _ => message::LENGTH,
-        };
-        lent.resize(length, 0x5a);
         lent
     }
 
-    fn room(&mut self) -> u64 {
-        match self.draw.below(4) {
-            0 => self.draw.below(125),
-            1 => 124,
-            2 => 125 + self.draw.below(100),
-            _ => 125,
+    /// Changes any byte, or one of the first three: one bit takes persist from 0 to 1, or back.
+    fn damage_a_byte(&mut self, lent: &mut [u8]) {
+        let any = self.draw.below(lent.len() as u64 + 1) as usize;
+        let i = self.draw.pick(&[0, 1, 2, 2, any]);
+        let change = if self.draw.once_in(2) { 1 } else { self.draw.word() as u8 };
+        if let Some(byte) = lent.get_mut(i) {
+            *byte ^= change;
+        }
+    }
+
+    /// How many bytes are lent: as many as the message has, near one of the two lengths, fewer than the full one, or more.
+    fn room(&mut self, fields: &Fields) -> u64 {
+        let (head, full) = (HEAD_LENGTH as u64, FULL_LENGTH as u64);
+        match self.draw.below(6) {
+            0 => self.near(head),
+            1 => self.near(full),
+            2 => self.draw.below(full),
+            3 => full + self.draw.below(300),
+            _ => fields.length() as u64,
         }
     }
 }
@@ -507,8 +512,4 @@ fn join(entries: &mut Vec<Entry>, i: usize) {
         entries[i].size = entries[i].size.wrapping_add(entries[i + 1].size);
         entries.remove(i + 1);
     }
-}
-
-fn write_line(fields: &Fields, room: u64) -> String {
-    format!("write {} {room}", joined(&fields.numbers()))
 }

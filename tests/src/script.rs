@@ -2,6 +2,8 @@
 //!
 //!   Machine    the model with a count of lines; `answer` takes a line and gives what the program must print, if anything
 //!   state_line, words_line, show_words   lines that set a state or a table, and the one that shows every word
+//!   read_line, write_line   lines that read a message out of lent bytes, and write one into a room
+//!   six        six numbers, as the addresses of small or of large managers
 //!
 //! Not here: `table` and `map`, whose answers are pictures for a person.
 
@@ -69,11 +71,11 @@ fn bytes_of_hex(hex: &str) -> Result<Vec<u8>, Wrong> {
     Ok((0..hex.len()).step_by(2).map(|i| u8::from_str_radix(&hex[i..i + 2], 16).expect("two hex digits")).collect())
 }
 
-pub fn hex_of(bytes: &[u8]) -> String {
+fn hex_of(bytes: &[u8]) -> String {
     bytes.iter().map(|b| format!("{b:02x}")).collect()
 }
 
-pub fn joined(numbers: &[u64]) -> String {
+fn joined(numbers: &[u64]) -> String {
     numbers.iter().map(u64::to_string).collect::<Vec<_>>().join(" ")
 }
 
@@ -87,6 +89,14 @@ pub fn words_line(table: &[u64]) -> String {
 
 pub fn show_words() -> String {
     "show words".to_string()
+}
+
+pub fn read_line(lent: &[u8]) -> String {
+    format!("read {}", hex_of(lent))
+}
+
+pub fn write_line(fields: &Fields, room: u64) -> String {
+    format!("write {} {room}", joined(&fields.numbers()))
 }
 
 /// A head, and behind it each word with a space in front.
@@ -249,7 +259,7 @@ fn read(words: &[&str]) -> Result<String, Wrong> {
     Ok(format!("{said}; {} bytes follow", message::rest(&lent)))
 }
 
-fn six(numbers: &[u64]) -> [u64; 6] {
+pub fn six(numbers: &[u64]) -> [u64; 6] {
     numbers.try_into().expect("six numbers")
 }
 

@@ -1,11 +1,12 @@
-//! Scripts that change a good table, state or message in each place in turn, go through all small tables at a page's edges, fill the largest
-//! one, and try lines at the edges of the script language.
+//! Scripts that change a good table, state or message in each place in turn, lend each number of bytes for a message, go through all small
+//! tables at a page's edges, fill the largest one, and try lines at the edges of the script language.
 //!
 //!   scripts    all of them; they are the same in every run
+//!   messages   the good messages
 
-use crate::message::{bytes_of, Fields, LENGTH, UNDEFINED};
+use crate::message::{bytes_of, Fields, ABSENT, FULL_LENGTH, HEAD_LENGTH, UNDEFINED};
 use crate::model::{table_of, Entry, State, ENTRY_WORDS, LARGEST_LIMIT};
-use crate::script::{hex_of, show_words, state_line, words_line, LONGEST_LINE, MOST_WORDS};
+use crate::script::{read_line, show_words, six, state_line, words_line, write_line, LONGEST_LINE, MOST_WORDS};
 
 /// Document 01's state and table after step 5.
 const STATE: State = State { page: 512, limit: 5_120, end: 2_560, count: 8 };
@@ -27,12 +28,18 @@ fn table() -> Vec<u64> {
 pub fn scripts() -> Vec<Vec<String>> {
     let damaged = [each_word(), each_number_of_the_state(), each_length_of_a_table()];
     let tables = [each_small_table(512), each_small_table(1_000), largest_table()];
-    let messages = [each_byte_of_a_message(), each_length_of_a_message()];
-    damaged.into_iter().chain(tables).chain(messages).chain([edges_of_lines()]).collect()
+    let read = [each_byte_of_a_message(), each_length_of_a_message()];
+    let written = [each_room_for_a_message(), each_address_without_persistence()];
+    damaged.into_iter().chain(tables).chain(read).chain(written).chain([edges_of_lines()]).collect()
 }
 
 fn opening() -> String {
     "open 512 5120 12".to_string()
+}
+
+/// A script of these lines.
+fn opened(lines: impl IntoIterator<Item = String>) -> Vec<String> {
+    [opening()].into_iter().chain(lines).collect()
 }
 
 /// What a word is changed to.
@@ -145,12 +152,23 @@ fn largest_table() -> Vec<String> {
     lines
 }
 
-/// Good messages, one with free addresses and one with undefined ones.
-fn messages() -> [Vec<u8>; 2] {
-    let small = [4_096, UNDEFINED, 635, 0, 1, 49_152];
-    let persistent = Fields { strategy: 1, persist: 1, threshold: 1, page: 4_096, page_end: 7, eoa: 40_960, small, large: small };
-    let plain = Fields { persist: 0, small: [UNDEFINED; 6], large: [UNDEFINED; 6], ..persistent.clone() };
-    [bytes_of(&persistent), bytes_of(&plain)]
+/// So many bytes are lent for a message at the most.
+const MOST_LENT: usize = FULL_LENGTH + 10;
+const ONES: u8 = u8::MAX;
+
+/// Good messages, one with addresses and one without persistence.
+pub fn messages() -> [Fields; 2] {
+    let (small, large) = ([4_096, UNDEFINED, 635, 0, 1, 49_152], [2, 81_920, UNDEFINED, 0, 3, 1_771]);
+    let persistent = Fields { strategy: 1, persist: 1, threshold: 1, page: 4_096, page_end: 7, eoa: 40_960, small, large };
+    let plain = Fields { persist: 0, small: ABSENT, large: ABSENT, ..persistent.clone() };
+    [persistent, plain]
+}
+
+/// A message in lent bytes, followed by others.
+fn followed(fields: &Fields, behind: u8) -> Vec<u8> {
+    let mut bytes = bytes_of(fields);
+    bytes.resize(MOST_LENT, behind);
+    bytes
 }
 
 /// What a byte of a message is changed to: the version, the strategy and persist to anything.
@@ -158,27 +176,35 @@ fn byte_changes(i: usize, byte: u8) -> Vec<u8> {
     if i < 3 { (0..=255).collect() } else { vec![byte ^ 1, byte ^ 0x80, !byte] }
 }
 
-fn each_byte_of_a_message() -> Vec<String> {
-    let mut lines = vec![opening()];
-    for message in messages() {
-        for i in 0..LENGTH {
-            for change in byte_changes(i, message[i]) {
-                let mut damaged = message.clone();
-                damaged[i] = change;
-                lines.push(format!("read {}", hex_of(&damaged)));
-            }
-        }
-    }
-    lines
+/// The lent bytes, read with each of them changed in turn.
+fn each_byte(lent: &[u8]) -> Vec<String> {
+    let changed = |i: usize, to: u8| read_line(&[&lent[..i], &[to], &lent[i + 1..]].concat());
+    (0..lent.len()).flat_map(|i| byte_changes(i, lent[i]).into_iter().map(move |to| changed(i, to))).collect()
 }
 
+/// A head alone, a head with a part of the addresses, and more than the longer message.
+fn each_byte_of_a_message() -> Vec<String> {
+    let messages = messages().map(|fields| followed(&fields, ONES));
+    opened([HEAD_LENGTH, 60, MOST_LENT].iter().flat_map(|length| messages.iter().flat_map(|lent| each_byte(&lent[..*length]))))
+}
+
+/// With ones behind the message, as absent addresses read, and with bytes that are no ones.
 fn each_length_of_a_message() -> Vec<String> {
-    let mut lines = vec![opening()];
-    for mut message in messages() {
-        message.resize(LENGTH + 10, 0xaa);
-        lines.extend((0..=message.len()).map(|length| format!("read {}", hex_of(&message[..length]))));
-    }
-    lines
+    let messages = messages().into_iter().flat_map(|fields| [followed(&fields, ONES), followed(&fields, 0xaa)]);
+    opened(messages.flat_map(|lent| (0..=MOST_LENT).map(move |length| read_line(&lent[..length]))))
+}
+
+/// Both messages written into each room, and one that has addresses without persistence.
+fn each_room_for_a_message() -> Vec<String> {
+    let [persistent, plain] = messages();
+    let broken = Fields { persist: 0, ..persistent.clone() };
+    opened([persistent, plain, broken].iter().flat_map(|fields| (0..=MOST_LENT as u64).map(|room| write_line(fields, room))))
+}
+
+fn each_address_without_persistence() -> Vec<String> {
+    let [_, plain] = messages();
+    let with = |addresses: &[u64]| Fields { small: six(&addresses[..6]), large: six(&addresses[6..]), ..plain.clone() };
+    opened(each_change(&[ABSENT, ABSENT].concat()).iter().map(|addresses| write_line(&with(addresses), FULL_LENGTH as u64)))
 }
 
 /// The longest line and one byte more; the most words and one more. A line that is refused changes nothing.
@@ -188,6 +214,5 @@ fn edges_of_lines() -> Vec<String> {
     let zeros = |count: usize| words_line(&vec![0; count]);
     let padded_lines = [LONGEST_LINE, LONGEST_LINE + 1, 3 * LONGEST_LINE].map(padded);
     let edges = padded_lines.into_iter().chain([zeros(MOST_WORDS), zeros(MOST_WORDS + 1), "words".to_string()]);
-    let looked_at = edges.flat_map(|line| [line, show_words()]);
-    [opening()].into_iter().chain(looked_at).chain([opening()]).collect()
+    opened(edges.flat_map(|line| [line, show_words()]).chain([opening()]))
 }

@@ -5,7 +5,8 @@
 //!   SITUATIONS   what calls are to meet
 //!   Tally        the counts; `missing` names what never came
 
-use crate::model::{Model, ENTRY_WORDS, LARGEST_PAGE, NOT_SOUND};
+use crate::message::HEAD_LENGTH;
+use crate::model::{Model, ENTRY_WORDS, LARGEST_PAGE, NOT_SOUND, SLICE_TOO_SHORT};
 
 /// The refusals in document 01's order. Not here: 6 for release, which cannot come (docs/DECISIONS.md, 9).
 pub const CALLS: [(&str, &[u64]); 9] = [
@@ -32,17 +33,25 @@ pub struct Met {
     pub is_near_the_largest: bool,
 }
 
-type IsMet = fn(&Met) -> bool;
+/// By what a call met, and by its answer.
+type IsMet = fn(&Met, &str) -> bool;
 
-pub const SITUATIONS: [(&str, IsMet); 8] = [
-    ("P = 512", |m| m.page == 512),
-    ("P = 1,000", |m| m.page == 1_000),
-    ("P = 4,096", |m| m.page == 4_096),
-    ("P = 2^30", |m| m.page == LARGEST_PAGE),
-    ("C = 4", |m| m.capacity == 4),
-    ("C = 4, all taken", |m| m.capacity == 4 && m.count == 4),
-    ("C = 1,024, all taken", |m| m.capacity == 1_024 && m.count == 1_024),
-    ("a number within 1,000 of 2^64", |m| m.is_near_the_largest),
+pub const SITUATIONS: [(&str, IsMet); 15] = [
+    ("P = 512", |m, _| m.page == 512),
+    ("P = 1,000", |m, _| m.page == 1_000),
+    ("P = 4,096", |m, _| m.page == 4_096),
+    ("P = 2^30", |m, _| m.page == LARGEST_PAGE),
+    ("C = 4", |m, _| m.capacity == 4),
+    ("C = 4, all taken", |m, _| m.capacity == 4 && m.count == 4),
+    ("C = 1,024, all taken", |m, _| m.capacity == 1_024 && m.count == 1_024),
+    ("a number within 1,000 of 2^64", |m, _| m.is_near_the_largest),
+    ("a head cut short", |_, a| cut_short(a).is_some_and(|lent| lent < HEAD_LENGTH)),
+    ("addresses cut short", |_, a| cut_short(a).is_some_and(|lent| lent >= HEAD_LENGTH)),
+    ("a message of 29 bytes read", |_, a| read_with(a, "persist 0").is_some()),
+    ("bytes that follow a message of 29 bytes", |_, a| read_with(a, "persist 0").is_some_and(|follow| follow > 0)),
+    ("a message of 125 bytes read", |_, a| read_with(a, "persist 1").is_some()),
+    ("a message of 29 bytes written", |_, a| wrote_with(a, "00")),
+    ("a message of 125 bytes written", |_, a| wrote_with(a, "01")),
 ];
 
 impl Met {
@@ -73,6 +82,26 @@ fn refusal_in(answer: &str) -> Option<u64> {
     number.split(';').next()?.parse().ok()
 }
 
+/// How many bytes an answer to `read` says to follow.
+fn follow_in(answer: &str) -> Option<usize> {
+    answer.strip_suffix(" bytes follow")?.rsplit(' ').next()?.parse().ok()
+}
+
+/// How many bytes were lent to a `read` that found too few: all of them follow.
+fn cut_short(answer: &str) -> Option<usize> {
+    follow_in(answer).filter(|_| refusal_in(answer) == Some(SLICE_TOO_SHORT))
+}
+
+/// How many bytes follow a message that was read with this persist.
+fn read_with(answer: &str, persist: &str) -> Option<usize> {
+    follow_in(answer).filter(|_| answer.contains(persist))
+}
+
+/// A message was written with this persist, its third byte.
+fn wrote_with(answer: &str, persist: &str) -> bool {
+    answer.strip_prefix("wrote ").is_some_and(|hex| &hex[4..6] == persist)
+}
+
 impl Tally {
     pub fn count(&mut self, line: &str, answer: &str, met: &Met) {
         self.answers += 1;
@@ -91,7 +120,7 @@ impl Tally {
         self.of[of][refusal.map_or(ACCEPTED, |number| number as usize)] += 1;
         if refusal != Some(NOT_SOUND) {
             for (count, (_, is_met)) in self.situations.iter_mut().zip(&SITUATIONS) {
-                *count += u64::from(is_met(met));
+                *count += u64::from(is_met(met, answer));
             }
         }
     }
@@ -131,6 +160,9 @@ impl Tally {
 #[cfg(test)]
 mod tests {
     use super::*;
+    use crate::message::bytes_of;
+    use crate::script::{read_line, write_line, Machine};
+    use crate::sweep::messages;
 
     #[test]
     fn what_never_came_is_named() {
@@ -152,5 +184,25 @@ mod tests {
         tally.count("show words", "words: 0 0 0", &met);
         assert_eq!((tally.calls(), tally.answers, tally.words, tally.wrong_lines), (2, 4, 3, 1));
         assert_eq!((tally.of[2][4], tally.of[2][2], tally.situations[0]), (1, 1, 1));
+    }
+
+    /// The situations that the model's answer to a line meets, by their names.
+    fn met_by(line: &str) -> Vec<&'static str> {
+        let answer = Machine::default().answer(line).expect("an answer");
+        SITUATIONS.iter().filter(|(_, is_met)| is_met(&Met::default(), &answer)).map(|(name, _)| *name).collect()
+    }
+
+    #[test]
+    fn a_message_is_counted_by_its_length() {
+        let [persistent, plain] = messages();
+        assert_eq!(met_by(&write_line(&plain, 29)), ["a message of 29 bytes written"]);
+        assert_eq!(met_by(&write_line(&persistent, 130)), ["a message of 125 bytes written"]);
+        assert!(met_by(&write_line(&persistent, 29)).is_empty());
+        assert_eq!(met_by(&read_line(&bytes_of(&plain))), ["a message of 29 bytes read"]);
+        assert_eq!(met_by(&read_line(&bytes_of(&persistent))), ["a message of 125 bytes read"]);
+        assert_eq!(met_by(&read_line(&bytes_of(&plain)[..28])), ["a head cut short"]);
+        assert_eq!(met_by(&read_line(&bytes_of(&persistent)[..29])), ["addresses cut short"]);
+        let followed = [bytes_of(&plain), vec![0]].concat();
+        assert_eq!(met_by(&read_line(&followed)), ["a message of 29 bytes read", "bytes that follow a message of 29 bytes"]);
     }
 }

@@ -7,7 +7,7 @@
 -- Assumes nothing.
 use Rattle.demands.specs.Demands.{Refusals, Keeps, Edits, NewBytes, Placing, Exactly, Listings, Runs, AnyOrder, TwoOrders, TheRun, OneResult}
 use Rattle.literal.specs.Statements.{Allocating, Releasing, Extending, Shortening}
-use Rattle.message.specs.Promises.{ReadExact, RestExact, WriteExact, Acceptance, RoundTrip, OneMeaning}
+use Rattle.message.specs.Promises.{Lengths, ReadExact, RestExact, WriteExact, Acceptance, RoundTrip, OneMeaning}
 use Rattle.table.specs.Theorems.{Determined, OneTable}
 
 pub record Signed : Type 0 where
@@ -28,6 +28,7 @@ pub record Signed : Type 0 where
   pub extending : Extending
   pub shortening : Shortening
   -- the message is written and read back to equal fields and equal bytes
+  pub lengths : Lengths
   pub read-exact : ReadExact
   pub rest-exact : RestExact
   pub write-exact : WriteExact

@@ -1,21 +1,23 @@
 -- The laws of what read, rest and write say and leave.
 --
--- In this order: what is read, by the tests of the code; where the part behind it starts; what is written; what a write did. `reading` and
--- `written` have one law for each of their outcomes, and no proof above this file opens them.
+-- In this order: what is read, by the tests of the code, and that one of its outcomes holds; where the part behind it starts; what is
+-- written; what a write did. `reading` and `written` have one law for each of their outcomes, and no proof above this file opens them.
 --
 -- Not here: the rules of the fields (RuleLaws). Assumes nothing.
 use Prim.Native.Nat.{ℕ, _≤_, _<_, zero-le}
-use mathlib.Core.Bool.{true, false}
+use mathlib.Core.Bool.{Bool, true, false}
 use mathlib.Core.List.{List, _++_}
 use mathlib.Core.Path.{_≡_, refl, sym, ap, _∙_}
-use native.Mathlib.Omega.{arith}
+use native.Mathlib.Decide.{ℕ-discrete}
+use lib.Dec.{lit<}
 use lib.ListN.{length, drop}
 use borrow.Author.Tests.{eq-eqb, ne-eqb, lt-ltb, le-ltb}
 use Rattle.little.specs.Little.{valueAt}
 use Rattle.message.specs.Message.{reading, refusedWrite, written, Wrote, writeSaid}
-use Rattle.message_bytes.specs.Parts.{fieldsOf, messageOf}
+use Rattle.message_bytes.proofs.PartLaws.{length-by-head}
+use Rattle.message_bytes.specs.Parts.{headFields, fieldsOf, messageOf}
 use Rattle.message_fields.proofs.FieldLaws.{follows-whole, follows-behind}
-use Rattle.message_fields.specs.Fields.{version, Held, leastLength, lengthOf, ReadOutcome, refusedRead, followsAt}
+use Rattle.message_fields.specs.Fields.{version, Held, leastLength, lengthOf, refusedRead, followsAt}
 use Rattle.message_fields.specs.Layout.{versionAt, strategyAt}
 use Rattle.message_fields.specs.Legal.{legalb}
 use Rattle.message_fields.specs.declared.Answer.the-variants.{Done, Refused}
@@ -35,14 +37,40 @@ module _ (b : List ℕ) where
   unfolding reading
   read-version h k = rw (le-ltb (length b) leastLength h, ne-eqb (valueAt versionAt strategyAt b) version k)
 
-  pub read-field : leastLength ≤ length b → valueAt versionAt strategyAt b ≡ version → legalb (fieldsOf b) ≡ false → reading b ≡ refusedRead brokenField
-  unfolding reading
-  read-field h k n = rw (le-ltb (length b) leastLength h, eq-eqb (valueAt versionAt strategyAt b) version k, n)
+  module _ (h : leastLength ≤ length b) (k : valueAt versionAt strategyAt b ≡ version) where
+    pub read-field : legalb (headFields b) ≡ false → reading b ≡ refusedRead brokenField
+    unfolding reading
+    read-field n = rw (le-ltb (length b) leastLength h, eq-eqb (valueAt versionAt strategyAt b) version k, n)
 
-  pub read-done : leastLength ≤ length b → valueAt versionAt strategyAt b ≡ version → legalb (fieldsOf b) ≡ true
-      → reading b ≡ record { refusal = 0; fields = fieldsOf b }
-  unfolding reading
-  read-done h k n = rw (le-ltb (length b) leastLength h, eq-eqb (valueAt versionAt strategyAt b) version k, n)
+    pub read-cut : legalb (headFields b) ≡ true → length b < lengthOf (headFields b) → reading b ≡ refusedRead sliceTooShort
+    unfolding reading
+    read-cut n m =
+        rw (le-ltb (length b) leastLength h, eq-eqb (valueAt versionAt strategyAt b) version k, n, lt-ltb (length b) (lengthOf (headFields b)) m)
+
+    pub read-done : legalb (headFields b) ≡ true → lengthOf (headFields b) ≤ length b → reading b ≡ record { refusal = 0; fields = fieldsOf b }
+    unfolding reading
+    read-done n m =
+        rw (le-ltb (length b) leastLength h, eq-eqb (valueAt versionAt strategyAt b) version k, n, le-ltb (length b) (lengthOf (headFields b)) m)
+
+  -- the outcomes of the tests, of which one holds
+  pub read-cases : {X : Type 0} → (length b < leastLength → X)
+      → (leastLength ≤ length b → (valueAt versionAt strategyAt b ≡ version → ⊥) → X)
+      → (leastLength ≤ length b → valueAt versionAt strategyAt b ≡ version → legalb (headFields b) ≡ false → X)
+      → (leastLength ≤ length b → valueAt versionAt strategyAt b ≡ version → legalb (headFields b) ≡ true
+      → length b < lengthOf (headFields b)
+      → X)
+      → (leastLength ≤ length b → valueAt versionAt strategyAt b ≡ version → legalb (headFields b) ≡ true
+      → lengthOf (headFields b) ≤ length b
+      → X)
+      → X
+  read-cases {X} short old broken cut done =
+      split leastLength (length b)
+      (λ h. elim (ℕ-discrete (valueAt versionAt strategyAt b) version) [ yes v ↦ tested h v (legalb (headFields b)) refl | no n ↦ old h n ])
+      short
+    where
+      tested : leastLength ≤ length b → valueAt versionAt strategyAt b ≡ version → (t : Bool) → legalb (headFields b) ≡ t → X
+      tested h v true e = split (lengthOf (headFields b)) (length b) (done h v e) (cut h v e)
+      tested h v false e = broken h v e
 
   -- ---- where the part behind it starts
 
@@ -52,16 +80,14 @@ module _ (b : List ℕ) where
   pub follows-done : {f : Fields} → reading b ≡ record { refusal = 0; fields = f } → followsAt (reading b) ≡ lengthOf f
   follows-done e = rw e (follows-behind _ refl)
 
-  done-fits : reading b .refusal ≡ 0 → lengthOf (reading b .fields) ≤ length b
-  done-fits e =
-      split leastLength (length b) (λ h. h)
-      (λ h. let r : reading b .refusal ≡ sliceTooShort = ap (λ (o : ReadOutcome). o .refusal) (read-short h) in absurd (omega arith))
-
   pub follows-fits : followsAt (reading b) ≤ length b
   follows-fits =
-      split 1 (reading b .refusal)
-      (λ k. rw (follows-whole (reading b) k) zero-le)
-      (λ k. let e : reading b .refusal ≡ 0 = omega arith in rw (follows-behind (reading b) e) (done-fits e))
+      read-cases
+      (λ h. rw (follows-refused (lit< tt) (read-short h)) zero-le)
+      (λ h n. rw (follows-refused (lit< tt) (read-version h n)) zero-le)
+      (λ h v e. rw (follows-refused (lit< tt) (read-field h v e)) zero-le)
+      (λ h v e m. rw (follows-refused (lit< tt) (read-cut h v e m)) zero-le)
+      (λ h v e m. rw (follows-done (read-done h v e m), ← length-by-head b) m)
 
 -- ---- what is written
 

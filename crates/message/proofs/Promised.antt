@@ -1,28 +1,30 @@
--- The theorems of specs/Promises.antt: `read-exact`, `rest-exact`, `write-exact`, `acceptance`, `round-trip` and `one-meaning`, in this order.
+-- The theorems of specs/Promises.antt: `lengths`, `read-exact`, `rest-exact`, `write-exact`, `acceptance`, `round-trip` and `one-meaning`, in this order.
 --
 -- Each exactness goes by the number: a row fixes the test that the definition makes, and each outcome of the tests gives its row. Uniqueness
 -- follows from exactness, since the definitions give one number, and a number belongs to one answer. Assumes nothing.
-use Prim.Native.Nat.{ℕ, zero, suc, _+_, _^_, _≤_, _<_}
+use Prim.Native.Nat.{ℕ, _+_, _≤_, _<_}
 use mathlib.Core.Bool.{Bool, true, false, cond}
 use mathlib.Core.List.{List, _++_}
 use mathlib.Core.Path.{_≡_, refl, sym, ap, _∙_}
-use native.Mathlib.Decide.{ℕ-discrete}
 use native.Mathlib.Omega.{arith}
 use lib.Dec.{eqb, lit<}
-use lib.ListN.{length, take, drop, getD, replicate, take-append-drop, length-append}
+use lib.ListN.{length, take, drop, take-append-drop, length-append}
 use lib.Seq.{take-at, drop-at}
-use Rattle.little.specs.Little.{byteValues, valueAt, Bytes}
-use Rattle.message.proofs.AnswerLaws.{read-short, read-version, read-field, read-done, write-field, write-short, write-done}
-use Rattle.message.proofs.AnswerLaws.{follows-refused, follows-done}
-use Rattle.message.proofs.RuleLaws.{legal-true, true-legal, false-legal}
+use Rattle.little.proofs.LittleLaws.{below-replicate}
+use Rattle.little.specs.Little.{valueAt, Bytes}
+use Rattle.message.proofs.AnswerLaws.{read-short, read-version, read-field, read-cut, read-done, read-cases}
+use Rattle.message.proofs.AnswerLaws.{follows-refused, follows-done, write-field, write-short, write-done}
+use Rattle.message.proofs.RuleLaws.{legal-true, true-legal, false-legal, legal-head, head-legal, head-broken, legal-absent}
 use Rattle.message.proofs.SaysLaws.{says-fields, fields-said, held-fields, message-said, said-message}
 use Rattle.message.specs.Message.{reading, following, WriteOutcome, writeSaid, written}
-use Rattle.message.specs.Promises.{Legal, Says, NoMessage, ReadRow, too-short, other-version, broken-field, done, RestRow, whole, behind, WriteRow}
-use Rattle.message.specs.Promises.{ReadExact, RestExact, WriteExact, Message, Acceptance, RoundTrip, OneMeaning}
-use Rattle.message_bytes.proofs.PartLaws.{length-message}
-use Rattle.message_bytes.specs.Parts.{fieldsOf, messageOf}
-use Rattle.message_fields.specs.Fields.{numberOf, version, Held, noFields, ReadOutcome, readSaid, refusedRead}
-use Rattle.message_fields.specs.Layout.{versionAt, strategyAt, messageLength, types, addressWidth}
+use Rattle.message.specs.Promises.{Legal, Says, NoMessage, HeadKept, ReadRow, too-short, other-version, broken-field, no-addresses, done}
+use Rattle.message.specs.Promises.{RestRow, whole, behind, WriteRow}
+use Rattle.message.specs.Promises.{Lengths, ReadExact, RestExact, WriteExact, Message, Acceptance, RoundTrip, OneMeaning}
+use Rattle.message_bytes.proofs.PartLaws.{length-message, length-by-head, head-without, head-with}
+use Rattle.message_bytes.specs.Parts.{headWith, headFields, fieldsOf, messageOf}
+use Rattle.message_fields.proofs.FieldLaws.{length-by-count, length-without, length-with}
+use Rattle.message_fields.specs.Fields.{numberOf, version, lengthOf, Held, noFields, ReadOutcome, readSaid, refusedRead}
+use Rattle.message_fields.specs.Layout.{versionAt, strategyAt, persistAt, thresholdAt, headLength, types, addressWidth}
 use Rattle.message_fields.specs.Legal.{legalb}
 use Rattle.message_fields.specs.declared.Answer.the-variants.{Done, Refused}
 use Rattle.message_fields.specs.declared.Answer.{Answer}
@@ -48,34 +50,33 @@ answer-number (Refused Field) = refl
 numbered : (a z : Answer) → numberOf a ≡ numberOf z → a ≡ z
 numbered a z e = sym (answer-number a) ∙ ap answerOf e ∙ answer-number z
 
+-- ---- how long a message is
+
+pub lengths : Lengths
+lengths = record { without = length-without; with = λ f h. length-with f (λ z. omega arith) }
+
 -- ---- what is a message
 
-short-none : (b : List ℕ) → length b < messageLength → NoMessage b
-short-none b h f s l = let r : messageLength ≤ length b = s .room in omega arith
+said-head : {f : Fields} {b : List ℕ} → Says f b → Legal f → HeadKept b
+said-head s l = rw (s .strategy, s .persist, s .page) at (l .head)
 
-old-none : (b : List ℕ) → (valueAt versionAt strategyAt b ≡ version → ⊥) → NoMessage b
-old-none b n f s l = n (s .edition)
+said-least : {f : Fields} {b : List ℕ} → Says f b → headLength ≤ length b
+said-least {f} s = omega (arith, s .room, length-by-count f)
 
-broken-none : (b : List ℕ) → legalb (fieldsOf b) ≡ false → NoMessage b
-broken-none b e f s l = not-both (true-legal (fieldsOf b) (rw (fields-said s) at l)) e
+said-room : {f : Fields} {b : List ℕ} → Says f b → lengthOf (headFields b) ≤ length b
+said-room {f} {b} s = rw (length-by-head b, ← (fields-said s)) (s .room)
 
 says-done : {f : Fields} {b : List ℕ} → Says f b → Legal f → reading b ≡ record { refusal = 0; fields = fieldsOf b }
-says-done {f} {b} s l = read-done b (s .room) (s .edition) (true-legal (fieldsOf b) (rw (fields-said s) at l))
+says-done {f} {b} s l = read-done b (said-least s) (s .edition) (head-legal b (said-head s l)) (said-room s)
 
--- the four cases of any bytes
-read-cases : (b : List ℕ) {X : Type 0} → (length b < messageLength → X)
-    → (messageLength ≤ length b → (valueAt versionAt strategyAt b ≡ version → ⊥) → X)
-    → (messageLength ≤ length b → valueAt versionAt strategyAt b ≡ version → legalb (fieldsOf b) ≡ false → X)
-    → (Says (fieldsOf b) b → Legal (fieldsOf b) → X)
-    → X
-read-cases b {X} short old broken said =
-    split messageLength (length b)
-    (λ h. elim (ℕ-discrete (valueAt versionAt strategyAt b) version) [ yes v ↦ tested h v (legalb (fieldsOf b)) refl | no n ↦ old h n ])
-    short
-  where
-    tested : messageLength ≤ length b → valueAt versionAt strategyAt b ≡ version → (t : Bool) → legalb (fieldsOf b) ≡ t → X
-    tested h v true e = said (says-fields b h v) (legal-true (fieldsOf b) e)
-    tested h v false e = broken h v e
+-- a head that keeps its rules, with the bytes that it asks for, is a message
+module _ (b : List ℕ) (v : valueAt versionAt strategyAt b ≡ version) (m : lengthOf (headFields b) ≤ length b) where
+  whole-says : Says (fieldsOf b) b
+  whole-says = says-fields b (rw (← (length-by-head b)) m) v
+
+  whole-legal : legalb (headFields b) ≡ true → Legal (fieldsOf b)
+  unfolding headWith
+  whole-legal e = record { head = legal-head b e; addresses = λ z. (whole-says .small .absent z, whole-says .large .absent z) }
 
 -- the two cases of rest
 rest-cases : (b : List ℕ) {X : Type 0} → ((n : ℕ) → 0 < n → reading b ≡ refusedRead n → NoMessage b → X)
@@ -83,26 +84,38 @@ rest-cases : (b : List ℕ) {X : Type 0} → ((n : ℕ) → 0 < n → reading b 
     → X
 rest-cases b refused said =
     read-cases b
-    (λ h. refused sliceTooShort (lit< tt) (read-short b h) (short-none b h))
-    (λ h n. refused otherVersion (lit< tt) (read-version b h n) (old-none b n))
-    (λ h v e. refused brokenField (lit< tt) (read-field b h v e) (broken-none b e))
-    said
+    (λ h. refused sliceTooShort (lit< tt) (read-short b h) (λ f s l. omega (arith, said-least s)))
+    (λ h n. refused otherVersion (lit< tt) (read-version b h n) (λ f s l. n (s .edition)))
+    (λ h v e. refused brokenField (lit< tt) (read-field b h v e) (λ f s l. not-both (head-legal b (said-head s l)) e))
+    (λ h v e m. refused sliceTooShort (lit< tt) (read-cut b h v e m) (λ f s l. omega (arith, said-room s)))
+    (λ h v e m. said (whole-says b v m) (whole-legal b v m e))
 
 -- ---- read
+
+-- a whole head asks for more than is there only with persistence, and then for its addresses
+cut-row : (b : List ℕ) → headLength ≤ length b → valueAt versionAt strategyAt b ≡ version → HeadKept b → length b < lengthOf (headFields b)
+    → ReadRow b sliceTooShort noFields
+cut-row b h v k m =
+    split 1 (valueAt persistAt thresholdAt b)
+    (λ p. no-addresses refl refl h v k p (rw (head-with b (λ z. omega arith)) at m))
+    (λ p. let z : valueAt persistAt thresholdAt b ≡ 0 = omega arith in absurd (omega (arith, head-without b z)))
 
 reading-row : (b : List ℕ) → ReadRow b (reading b .refusal) (reading b .fields)
 reading-row b =
     read-cases b
     (λ h. rw (read-short b h) (too-short refl refl h))
     (λ h n. rw (read-version b h n) (other-version refl refl h n))
-    (λ h v e. rw (read-field b h v e) (broken-field refl refl h v (broken-none b e)))
-    (λ s l. rw (says-done s l) (done refl s l))
+    (λ h v e. rw (read-field b h v e) (broken-field refl refl h v (λ k. not-both (head-legal b k) e)))
+    (λ h v e m. rw (read-cut b h v e m) (cut-row b h v (legal-head b e) m))
+    (λ h v e m. rw (read-done b h v e m) (done refl (whole-says b v m) (whole-legal b v m e)))
 
 row-reading : (b : List ℕ) (o : ReadOutcome) → ReadRow b (o .refusal) (o .fields) → o ≡ reading b
 row-reading b o (too-short n g h) = (λ i. record { refusal = n i; fields = g i }) ∙ sym (read-short b h)
 row-reading b o (other-version n g h v) = (λ i. record { refusal = n i; fields = g i }) ∙ sym (read-version b h v)
 row-reading b o (broken-field n g h v m) =
-    (λ i. record { refusal = n i; fields = g i }) ∙ sym (read-field b h v (false-legal (fieldsOf b) (m (fieldsOf b) (says-fields b h v))))
+    (λ i. record { refusal = n i; fields = g i }) ∙ sym (read-field b h v (head-broken b m))
+row-reading b o (no-addresses n g h v k p m) =
+    (λ i. record { refusal = n i; fields = g i }) ∙ sym (read-cut b h v (head-legal b k) (rw (head-with b (λ z. omega arith)) m))
 row-reading b o (done n s l) = (λ i. record { refusal = n i; fields = fields-said s i }) ∙ sym (says-done s l)
 
 pub read-exact : ReadExact
@@ -114,7 +127,7 @@ following-whole : (b : List ℕ) {n : ℕ} → 0 < n → reading b ≡ refusedRe
 unfolding following
 following-whole b h e = rw (follows-refused b h e)
 
-following-behind : (b : List ℕ) {f : Fields} → reading b ≡ record { refusal = 0; fields = f } → following b ≡ drop messageLength b
+following-behind : (b : List ℕ) {f : Fields} → reading b ≡ record { refusal = 0; fields = f } → following b ≡ drop (lengthOf f) b
 unfolding following
 following-behind b e = rw (follows-done b e)
 
@@ -125,24 +138,26 @@ following-row b =
 row-following : (b c : List ℕ) → RestRow b c → c ≡ following b
 row-following b c (whole e n) =
     rest-cases b (λ k h a m. e ∙ sym (following-whole b h a)) (λ s l. absurd (n (fieldsOf b) s l))
-row-following b c (behind f s l e) = e ∙ sym (following-behind b (says-done s l))
+row-following b c (behind f s l e) = e ∙ ap (λ (g : Fields). drop (lengthOf g) b) (fields-said s) ∙ sym (following-behind b (says-done s l))
 
 pub rest-exact : RestExact
 rest-exact b c = (λ e. rw e (following-row b), row-following b c)
 
 -- ---- write
 
--- the message of held fields in front of c says them
-laid-says : (f : Fields) (b c : List ℕ) → Held f → c ≡ messageOf f ++ drop messageLength b → Says f c
-laid-says f b c h e =
-    let l : length (messageOf f) ≡ messageLength = length-message f (h .six-small) (h .six-large) in
-    let n : length c ≡ length (messageOf f) + length (drop messageLength b) = ap length e ∙ length-append (messageOf f) (drop messageLength b) in
-    message-said f c h (omega arith) (ap (λ (k : List ℕ). take messageLength k) e ∙ take-at (messageOf f) (drop messageLength b) messageLength l)
+-- the message of legal fields in front of c says them
+module _ (f : Fields) (b c : List ℕ) (h : Held f) (e : c ≡ messageOf f ++ drop (lengthOf f) b) where
+  length-laid : length (messageOf f) ≡ lengthOf f
+  length-laid = length-message f (h .six-small) (h .six-large)
 
-laid-rest : (f : Fields) (b c : List ℕ) → Held f → c ≡ messageOf f ++ drop messageLength b → drop messageLength c ≡ drop messageLength b
-laid-rest f b c h e =
-    ap (λ (k : List ℕ). drop messageLength k) e
-    ∙ drop-at (messageOf f) (drop messageLength b) messageLength (length-message f (h .six-small) (h .six-large))
+  laid-says : Legal f → Says f c
+  laid-says l =
+      let n : length c ≡ length (messageOf f) + length (drop (lengthOf f) b) = ap length e ∙ length-append (messageOf f) (drop (lengthOf f) b) in
+      message-said f c h (legal-absent f h l) (omega (arith, length-laid))
+      (ap (λ (k : List ℕ). take (lengthOf f) k) e ∙ take-at (messageOf f) (drop (lengthOf f) b) (lengthOf f) length-laid)
+
+  laid-rest : drop (lengthOf f) c ≡ drop (lengthOf f) b
+  laid-rest = ap (λ (k : List ℕ). drop (lengthOf f) k) e ∙ drop-at (messageOf f) (drop (lengthOf f) b) (lengthOf f) length-laid
 
 written-row : (f : Fields) (b : List ℕ) → Held f → WriteRow f b (written f b .refusal) (written f b .bytes)
 written-row f b h = tested (legalb f) refl
@@ -150,15 +165,15 @@ written-row f b h = tested (legalb f) refl
     tested : (t : Bool) → legalb f ≡ t → WriteRow f b (written f b .refusal) (written f b .bytes)
     tested false e = rw (write-field f b e) (broken-field refl refl (λ l. not-both (true-legal f l) e))
     tested true e =
-        split messageLength (length b)
-        (λ m. rw (write-done f b e m) (done refl (legal-true f e) m (laid-says f b _ h refl) (laid-rest f b _ h refl)))
+        split (lengthOf f) (length b)
+        (λ m. rw (write-done f b e m) (done refl (legal-true f e) m (laid-says f b _ h refl (legal-true f e)) (laid-rest f b _ h refl)))
         (λ m. rw (write-short f b e m) (too-short refl refl (legal-true f e) m))
 
 row-written : (f : Fields) (b : List ℕ) (o : WriteOutcome) → Bytes (o .bytes) → WriteRow f b (o .refusal) (o .bytes) → o ≡ written f b
 row-written f b o k (broken-field n e l) = (λ i. record { refusal = n i; bytes = e i }) ∙ sym (write-field f b (false-legal f l))
 row-written f b o k (too-short n e l m) = (λ i. record { refusal = n i; bytes = e i }) ∙ sym (write-short f b (true-legal f l) m)
 row-written f b o k (done n l m s d) =
-    let c : o .bytes ≡ messageOf f ++ drop messageLength b = rw (said-message k s, ← d) (sym (take-append-drop messageLength (o .bytes))) in
+    let c : o .bytes ≡ messageOf f ++ drop (lengthOf f) b = rw (said-message k s, ← d) (sym (take-append-drop (lengthOf f) (o .bytes))) in
     (λ i. record { refusal = n i; bytes = c i }) ∙ sym (write-done f b (true-legal f l) m)
 
 pub write-exact : WriteExact
@@ -178,35 +193,34 @@ acceptance b = (found, λ m. ap (λ (o : ReadOutcome). o .refusal) (says-done (m
 
 -- ---- the round trip
 
-module _ (f : Fields) (b : List ℕ) (h : Held f) (l : Legal f) (m : messageLength ≤ length b) where
-  trip : written f b .bytes ≡ messageOf f ++ drop messageLength b
+module _ (f : Fields) (b : List ℕ) (h : Held f) (l : Legal f) (m : lengthOf f ≤ length b) where
+  trip : written f b .bytes ≡ messageOf f ++ drop (lengthOf f) b
   trip = ap (λ (o : WriteOutcome). o .bytes) (write-done f b (true-legal f l) m)
 
   trip-says : Says f (written f b .bytes)
-  trip-says = laid-says f b (written f b .bytes) h trip
+  trip-says = laid-says f b (written f b .bytes) h trip l
 
-  write-read : reading (written f b .bytes) ≡ record { refusal = 0; fields = f }
-  write-read = says-done trip-says l ∙ ap (λ (g : Fields). record { refusal = 0; fields = g }) (sym (fields-said trip-says))
+  trip-done : reading (written f b .bytes) ≡ record { refusal = 0; fields = f }
+  trip-done = says-done trip-says l ∙ ap (λ (g : Fields). record { refusal = 0; fields = g }) (sym (fields-said trip-says))
 
-  write-rest : following (written f b .bytes) ≡ drop messageLength b
-  write-rest = following-behind (written f b .bytes) (says-done trip-says l) ∙ laid-rest f b (written f b .bytes) h trip
+  trip-rest : following (written f b .bytes) ≡ drop (lengthOf f) b
+  trip-rest = following-behind (written f b .bytes) trip-done ∙ laid-rest f b (written f b .bytes) h trip
 
-read-write : (b c : List ℕ) → Bytes b → reading b .refusal ≡ 0 → messageLength ≤ length c
-    → written (reading b .fields) c ≡ record { refusal = 0; bytes = take messageLength b ++ drop messageLength c }
+read-write : (b c : List ℕ) → Bytes b → reading b .refusal ≡ 0 → lengthOf (reading b .fields) ≤ length c
+    → written (reading b .fields) c
+    ≡ record { refusal = 0; bytes = take (lengthOf (reading b .fields)) b ++ drop (lengthOf (reading b .fields)) c }
 read-write b c h e m =
     rest-cases b
     (λ n k a x. absurd (not-refused b e k a))
-    (λ s l. rw (says-done s l, ← said-message h s) (write-done (fieldsOf b) c (true-legal (fieldsOf b) l) m))
-
-zeros : (n i : ℕ) → getD {A = ℕ} (replicate n 0) i 0 ≡ 0
-zeros zero i = refl
-zeros (suc n) zero = refl
-zeros (suc n) (suc i) = zeros n i
+    (λ s l.
+    let r = ap (λ (o : ReadOutcome). o .fields) (says-done s l) in
+    let fits : lengthOf (fieldsOf b) ≤ length c = rw (← r) m in
+    rw (r, ← (said-message h s)) (write-done (fieldsOf b) c (true-legal (fieldsOf b) l) fits))
 
 held-none : Held noFields
 unfolding noFields
 held-none =
-    let z : (i : ℕ) → getD (replicate types 0) i 0 < byteValues ^ addressWidth = λ i. rw (zeros types i) (lit< tt) in
+    let z = below-replicate addressWidth types 0 (lit< tt) in
     record {
       strategy = lit< tt;
       persist = lit< tt;
@@ -224,7 +238,7 @@ read-held : (b : List ℕ) → Bytes b → Held (reading b .fields)
 read-held b h = rest-cases b (λ n k e x. rw e held-none) (λ s l. rw (says-done s l) (held-fields b h))
 
 pub round-trip : RoundTrip
-round-trip = record { write-read = write-read; write-rest = write-rest; read-write = read-write; read-held = read-held }
+round-trip = record { write-read = trip-done; write-rest = trip-rest; read-write = read-write; read-held = read-held }
 
 -- ---- uniqueness
 

@@ -1,18 +1,27 @@
 -- The rules as facts: `legalb` is true exactly of the fields that are `Legal`.
 --
--- In this order: addresses that are all undefined; what the persist byte allows; the rules of the fields.
+-- In this order: addresses that are all undefined; what the persist byte allows; the rules of the fields; the rules of a head; the addresses
+-- that are not there.
 --
 -- Not here: the outcomes of the tests (message_fields/proofs/LegalLaws.antt). Assumes nothing.
-use Prim.Native.Nat.{ℕ, zero, suc}
+use Prim.Native.Nat.{ℕ, zero, suc, _-_, _≤_}
 use mathlib.Core.Bool.{Bool, true, false}
-use mathlib.Core.List.{List, [], _∷_}
-use mathlib.Core.Path.{_≡_, refl, sym, _∙_}
+use mathlib.Core.List.{List, [], _∷_, _++_}
+use mathlib.Core.Path.{_≡_, refl, sym, ap, _∙_}
 use native.Mathlib.Decide.{ℕ-discrete}
 use native.Mathlib.Omega.{arith}
 use lib.Dec.{leb, eqb}
+use lib.ListN.{length, drop, length-replicate, getD-replicate, drop-of-length-le}
+use lib.Seq.{ext-getD}
 use borrow.Author.Tests.{eq-eqb, eqb-true, leb-true}
-use Rattle.message.specs.Promises.{Undefined, Legal}
+use Rattle.message.specs.Promises.{Undefined, Legal, HeadKept}
+use Rattle.message_bytes.proofs.PartLaws.{length-both}
+use Rattle.message_bytes.specs.Parts.{headWith, headFields}
+use Rattle.message_bytes.specs.Tail.{absent}
+use Rattle.message_fields.proofs.FieldLaws.{count-without, count-with}
 use Rattle.message_fields.proofs.LegalLaws.{addresses-kept, addresses-small, addresses-large, legal-addresses}
+use Rattle.message_fields.specs.Fields.{Held, addressCount}
+use Rattle.message_fields.specs.Layout.{types, mostAddresses}
 use Rattle.message_fields.specs.Legal.{lastStrategy, lastPersist, undefined, undefinedb, addressesb, legalb}
 use Rattle.message_fields.specs.declared.Fields.{Fields}
 use Rattle.pages.proofs.Numbers.{and-left, and-right, both, not-both}
@@ -51,15 +60,18 @@ legal-true f e =
     let e₁ = and-right (leb (f .strategy) lastStrategy) _ e in
     let e₂ = and-right (leb (f .persist) lastPersist) _ e₁ in
     record {
-      strategy = leb-true (f .strategy) lastStrategy (and-left (leb (f .strategy) lastStrategy) _ e);
-      persist = leb-true (f .persist) lastPersist (and-left (leb (f .persist) lastPersist) _ e₁);
-      page = page-size-true (f .page) (and-left (pageSizeb (f .page)) _ e₂);
+      head =
+          record {
+            strategy = leb-true (f .strategy) lastStrategy (and-left (leb (f .strategy) lastStrategy) _ e);
+            persist = leb-true (f .persist) lastPersist (and-left (leb (f .persist) lastPersist) _ e₁);
+            page = page-size-true (f .page) (and-left (pageSizeb (f .page)) _ e₂);
+          };
       addresses = addresses-true (f .persist) (f .small) (f .large) (and-right (pageSizeb (f .page)) _ e₂);
     }
 
 pub true-legal : (f : Fields) → Legal f → legalb f ≡ true
 true-legal f h =
-    legal-addresses f (h .strategy) (h .persist) (true-page-size (f .page) (h .page))
+    legal-addresses f (h .head .strategy) (h .head .persist) (true-page-size (f .page) (h .head .page))
     ∙ true-addresses (f .persist) (f .small) (f .large) (h .addresses)
 
 pub false-legal : (f : Fields) → (Legal f → ⊥) → legalb f ≡ false
@@ -68,3 +80,43 @@ false-legal f n = go (legalb f) refl
     go : (t : Bool) → legalb f ≡ t → legalb f ≡ false
     go true e = absurd (n (legal-true f e))
     go false e = e
+
+-- ---- the rules of a head
+
+module _ (b : List ℕ) where
+  pub legal-head : legalb (headFields b) ≡ true → HeadKept b
+  unfolding headWith
+  legal-head e = legal-true (headFields b) e .head
+
+  pub head-legal : HeadKept b → legalb (headFields b) ≡ true
+  unfolding headWith
+  head-legal h =
+      let none : Undefined (absent types) = λ i l. getD-replicate types i undefined 0 l in
+      true-legal (headFields b) (record { head = h; addresses = λ z. (none, none) })
+
+  pub head-broken : (HeadKept b → ⊥) → legalb (headFields b) ≡ false
+  unfolding headWith
+  head-broken n = false-legal (headFields b) (λ l. n (l .head))
+
+-- ---- the addresses that are not there
+
+undefined-list : (vs : List ℕ) → Undefined vs → vs ≡ absent (length vs)
+undefined-list vs u =
+    ext-getD 0 vs (absent (length vs)) (sym (length-replicate (length vs) undefined))
+    (λ i h. u i h ∙ sym (getD-replicate (length vs) i undefined 0 h))
+
+-- behind the addresses that stand in the message of f there are undefined ones
+abbrev pub OthersAbsent : Fields → Type 0
+OthersAbsent f = drop (addressCount (f .persist)) (f .small ++ f .large) ≡ absent (mostAddresses - addressCount (f .persist))
+
+pub legal-absent : (f : Fields) → Held f → Legal f → OthersAbsent f
+legal-absent f h l =
+    elim (ℕ-discrete (f .persist) 0) [
+      | yes z ↦
+          let s : f .small ≡ absent types = undefined-list (f .small) (l .addresses z .0) ∙ ap absent (h .six-small) in
+          let g : f .large ≡ absent types = undefined-list (f .large) (l .addresses z .1) ∙ ap absent (h .six-large) in
+          rw (count-without (f .persist) z, s, g)
+      | no n ↦
+          let m : length (f .small ++ f .large) ≤ mostAddresses = omega (arith, length-both f (h .six-small) (h .six-large)) in
+          rw (count-with (f .persist) n) (drop-of-length-le (f .small ++ f .large) m)
+    ]

@@ -1,6 +1,7 @@
 -- The calls of document 01 on a message: what read, rest and write give for any bytes, in its numbers.
 --
---   reading b             what read hands back for the bytes b: its number and the fields, which are those of `noFields` on a refusal
+--   reading b             what read hands back for the bytes b: its number and the fields, which are those of `noFields` on a refusal. The
+--                         rules are asked of the head, and then the length of it, before any address is looked at
 --   following b           the part behind the message: all of b on a refusal
 --   WriteOutcome          what a write leaves: its refusal number (0 if accepted), and every lent byte
 --   writeSaid a c         what a write said with the answer a, and left in the bytes c
@@ -22,15 +23,16 @@ use Rattle.message_fields.specs.declared.Answer.{Answer}
 use Rattle.message_fields.specs.Fields.{version, Held, leastLength, lengthOf, numberOf, ReadOutcome, refusedRead, followsAt}
 use Rattle.message_fields.specs.Layout.{versionAt, strategyAt}
 use Rattle.message_fields.specs.Legal.{legalb}
-use Rattle.message_bytes.specs.Parts.{fieldsOf, messageOf}
+use Rattle.message_bytes.specs.Parts.{headFields, fieldsOf, messageOf}
 use Rattle.refusals.specs.AnswerNumbers.{sliceTooShort, otherVersion, brokenField}
 
 unfoldable pub reading : List ℕ → ReadOutcome
 reading b =
     cond (ltb (length b) leastLength) (refusedRead sliceTooShort)
     (cond (not (eqb (valueAt versionAt strategyAt b) version)) (refusedRead otherVersion)
-    (cond (not (legalb (fieldsOf b))) (refusedRead brokenField)
-    (record { refusal = 0; fields = fieldsOf b })))
+    (cond (not (legalb (headFields b))) (refusedRead brokenField)
+    (cond (ltb (length b) (lengthOf (headFields b))) (refusedRead sliceTooShort)
+    (record { refusal = 0; fields = fieldsOf b }))))
 
 unfoldable pub following : List ℕ → List ℕ
 following b = drop (followsAt (reading b)) b

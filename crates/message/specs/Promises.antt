@@ -1,16 +1,21 @@
--- What document 01 says of read, rest and write, row by row and by its numbers, and not by how it is computed; and the theorems that hold of the
--- definitions in specs/Message.antt. The proofs are in proofs/Promised.antt.
+-- What document 01 says of read, rest and write, as request E1 changed it, row by row and by its numbers, and not by how it is computed; and the
+-- theorems that hold of the definitions in specs/Message.antt. The proofs are in proofs/Promised.antt.
 --
 --   Undefined vs          the addresses vs are all undefined
+--   HeadLegal s p P       strategy s, persist p and page size P keep their rules
 --   Legal f               the fields f keep the rules
---   Addresses at vs b     the bytes b have the addresses vs, one for each type, from the place `at` on
+--
+--   Addresses p at vs b   vs are addresses, one for each type: with the persist byte p not 0 those that the bytes b have from the place `at` on,
+--                         and with persist 0 undefined ones, whatever the bytes are
 --   Says f b              the bytes b start with a message of the fields f
 --   NoMessage b           they start with no message: no legal fields are said
+--   HeadKept b            the fields up to the EOA, as b has them, keep their rules
 --
 --   ReadRow b n g         read answers the number n and hands back the fields g
 --   RestRow b c           rest hands back c
 --   WriteRow f b n c      write answers n and makes c of the lent bytes b
 --
+--   Lengths               a message has 29 bytes without persistence, and 125 with it
 --   ReadExact .. WriteExact   the definitions meet the rows, and nothing else does
 --   Message b, Acceptance  b starts with a message: it says legal fields; exactly such bytes are accepted
 --   RoundTrip             what is written reads back to equal fields, and what is read writes back to equal bytes
@@ -28,8 +33,8 @@ use Rattle.message_fields.specs.declared.Fields.{Fields}
 use Rattle.message_fields.specs.declared.Read.{Read}
 use Rattle.message_fields.specs.declared.Answer.{Answer}
 use Rattle.message_fields.specs.Fields.{numberOf, version, lengthOf, Held, noFields, ReadOutcome}
-use Rattle.message_fields.specs.Layout.{versionAt, strategyAt, persistAt, thresholdAt, pageAt, pageEndAt, eoaAt, smallAt, largeAt}
-use Rattle.message_fields.specs.Layout.{messageLength, types, addressWidth}
+use Rattle.message_fields.specs.Layout.{versionAt, strategyAt, persistAt, thresholdAt, pageAt, pageEndAt, eoaAt, headLength, smallAt, largeAt}
+use Rattle.message_fields.specs.Layout.{fullLength, types, addressWidth}
 use Rattle.message_fields.specs.Legal.{lastStrategy, lastPersist, undefined}
 use Rattle.message.specs.Message.{reading, following, WriteOutcome, written, Wrote}
 use Rattle.refusals.specs.AnswerNumbers.{sliceTooShort, otherVersion, brokenField}
@@ -39,17 +44,21 @@ use Rattle.refusals.specs.AnswerNumbers.{sliceTooShort, otherVersion, brokenFie
 abbrev pub Undefined : List ℕ → Type 0
 Undefined vs = (i : ℕ) → i < length vs → getD vs i 0 ≡ undefined
 
+pub record HeadLegal (s p P : ℕ) : Type 0 where
+  pub strategy : s ≤ lastStrategy
+  pub persist : p ≤ lastPersist
+  pub page : PageSize P
+
 pub record Legal (f : Fields) : Type 0 where
-  pub strategy : f .strategy ≤ lastStrategy
-  pub persist : f .persist ≤ lastPersist
-  pub page : PageSize (f .page)
+  pub head : HeadLegal (f .strategy) (f .persist) (f .page)
   pub addresses : f .persist ≡ 0 → Undefined (f .small) × Undefined (f .large)
 
 -- ---- the message
 
-pub record Addresses (at : ℕ) (vs b : List ℕ) : Type 0 where
+pub record Addresses (p at : ℕ) (vs b : List ℕ) : Type 0 where
   pub six : length vs ≡ types
-  pub each : (i : ℕ) → i < types → getD vs i 0 ≡ valueAt (at + i * addressWidth) (at + (i * addressWidth + addressWidth)) b
+  pub absent : p ≡ 0 → Undefined vs
+  pub there : 0 < p → (i : ℕ) → i < types → getD vs i 0 ≡ valueAt (at + i * addressWidth) (at + (i * addressWidth + addressWidth)) b
 
 pub record Says (f : Fields) (b : List ℕ) : Type 0 where
   pub room : lengthOf f ≤ length b
@@ -59,19 +68,24 @@ pub record Says (f : Fields) (b : List ℕ) : Type 0 where
   pub threshold : f .threshold ≡ valueAt thresholdAt pageAt b
   pub page : f .page ≡ valueAt pageAt pageEndAt b
   pub page-end : f .«page_end» ≡ valueAt pageEndAt eoaAt b
-  pub eoa : f .eoa ≡ valueAt eoaAt smallAt b
-  pub small : Addresses smallAt (f .small) b
-  pub large : Addresses largeAt (f .large) b
+  pub eoa : f .eoa ≡ valueAt eoaAt headLength b
+  pub small : Addresses (f .persist) smallAt (f .small) b
+  pub large : Addresses (f .persist) largeAt (f .large) b
 
 abbrev pub NoMessage : List ℕ → Type 0
 NoMessage b = (f : Fields) → Says f b → Legal f → ⊥
 
+abbrev pub HeadKept : List ℕ → Type 0
+HeadKept b = HeadLegal (valueAt strategyAt persistAt b) (valueAt persistAt thresholdAt b) (valueAt pageAt pageEndAt b)
+
 -- ---- the rows
 
 pub data ReadRow (b : List ℕ) (n : ℕ) (g : Fields) : Type 0 where
-  too-short : n ≡ sliceTooShort → g ≡ noFields → length b < messageLength → ReadRow b n g
-  other-version : n ≡ otherVersion → g ≡ noFields → messageLength ≤ length b → (valueAt versionAt strategyAt b ≡ version → ⊥) → ReadRow b n g
-  broken-field : n ≡ brokenField → g ≡ noFields → messageLength ≤ length b → valueAt versionAt strategyAt b ≡ version → NoMessage b → ReadRow b n g
+  too-short : n ≡ sliceTooShort → g ≡ noFields → length b < headLength → ReadRow b n g
+  other-version : n ≡ otherVersion → g ≡ noFields → headLength ≤ length b → (valueAt versionAt strategyAt b ≡ version → ⊥) → ReadRow b n g
+  broken-field : n ≡ brokenField → g ≡ noFields → headLength ≤ length b → valueAt versionAt strategyAt b ≡ version → (HeadKept b → ⊥) → ReadRow b n g
+  no-addresses : n ≡ sliceTooShort → g ≡ noFields → headLength ≤ length b → valueAt versionAt strategyAt b ≡ version → HeadKept b
+      → 0 < valueAt persistAt thresholdAt b → length b < fullLength → ReadRow b n g
   done : n ≡ 0 → Says g b → Legal g → ReadRow b n g
 
 pub data RestRow (b c : List ℕ) : Type 0 where
@@ -84,6 +98,10 @@ pub data WriteRow (f : Fields) (b : List ℕ) (n : ℕ) (c : List ℕ) : Type 0 
   done : n ≡ 0 → Legal f → lengthOf f ≤ length b → Says f c → drop (lengthOf f) c ≡ drop (lengthOf f) b → WriteRow f b n c
 
 -- ---- the theorems
+
+pub record Lengths : Type 0 where
+  pub without : (f : Fields) → f .persist ≡ 0 → lengthOf f ≡ headLength
+  pub with : (f : Fields) → 0 < f .persist → lengthOf f ≡ fullLength
 
 abbrev pub ReadExact : Type 0
 ReadExact = (b : List ℕ) (o : ReadOutcome) → (o ≡ reading b) ↔ ReadRow b (o .refusal) (o .fields)

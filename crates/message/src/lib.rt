@@ -8,8 +8,9 @@ pub use message_fields::number_of;
 ghost use mathlib.Core.Path.{_≡_};
 ghost use Rattle.message_fields.specs.Fields.{readSaid};
 ghost use Rattle.message.specs.Message.{reading, following, writeSaid, Wrote};
-use message_bytes::fields_of;
+use message_bytes::head_of;
 use message_bytes::put_fields;
+use message_bytes::with_addresses;
 use message_fields::LEAST_LENGTH;
 use message_fields::VERSION;
 use message_fields::VERSION_AT;
@@ -18,7 +19,8 @@ use message_fields::legal::is_legal;
 use message_fields::length_of;
 use message_fields::refused;
 
-// The fields of the message that the bytes start with, or why there is none.
+// The fields of the message that the bytes start with, or why there is none. Without persistence the addresses are not there, and read as all
+// ones; then the head is all that is asked for.
 pub fn read(bytes: &[u8]) -> Read
     ensures { λ r. ⌜ readSaid r ≡ reading (now (bytes .entry)) ⌝ }
 {
@@ -28,8 +30,13 @@ pub fn read(bytes: &[u8]) -> Read
     if bytes[VERSION_AT] != VERSION {
         return refused(Refusal::Version);
     }
-    let found = fields_of(bytes);
-    if is_legal(found) {
+    let head = head_of(bytes);
+    let needed = length_of(head);
+    if is_legal(head) {
+        if bytes.len() < needed {
+            return refused(Refusal::Short);
+        }
+        let found = with_addresses(head, bytes);
         return Read {
             answer: Answer::Done,
             fields: found,

@@ -1,33 +1,39 @@
--- The fields of a message in bytes, part by part.
+-- The fields of a message in bytes: its head, and behind it the addresses that persist asks for.
 --
---   addressesOf bs        the addresses of a part
---   fieldsOf b            the fields as the bytes b have them, whether legal or not
+--   headWith vs b         the fields up to the EOA as the bytes b have them, with the addresses vs: the small managers', then the large ones'
+--   headFields b          the same with every address absent
+--   fieldsOf b            all fields as the bytes b have them, whether legal or not
 --   headOf f, messageOf f the bytes of f up to the addresses, and all of them
 --
 -- Assumes nothing. Laws are in proofs/PartLaws.antt.
 use mathlib.Core.List.{List, _++_}
 use Prim.Native.Nat.{ℕ, _-_}
-use Rattle.little.specs.Little.{bytesOf, numbers, bytesOfAll, part, valueAt}
+use lib.ListN.{take, drop}
+use Rattle.little.specs.Little.{bytesOf, valueAt}
+use Rattle.message_bytes.specs.Tail.{absent, addressesAt, tailOf}
 use Rattle.message_fields.specs.declared.Fields.{Fields}
-use Rattle.message_fields.specs.Fields.{version}
-use Rattle.message_fields.specs.Layout.{versionAt, strategyAt, persistAt, thresholdAt, pageAt, pageEndAt, eoaAt, smallAt, largeAt}
-use Rattle.message_fields.specs.Layout.{messageLength, types, addressWidth}
+use Rattle.message_fields.specs.Fields.{version, addressCount}
+use Rattle.message_fields.specs.Layout.{versionAt, strategyAt, persistAt, thresholdAt, pageAt, pageEndAt, eoaAt, headLength}
+use Rattle.message_fields.specs.Layout.{types, mostAddresses}
 
-abbrev pub addressesOf : List ℕ → List ℕ
-addressesOf bs = numbers addressWidth types bs
-
-unfoldable pub fieldsOf : List ℕ → Fields
-fieldsOf b =
+unfoldable pub headWith : List ℕ → List ℕ → Fields
+headWith vs b =
     record {
       strategy = valueAt strategyAt persistAt b;
       persist = valueAt persistAt thresholdAt b;
       threshold = valueAt thresholdAt pageAt b;
       page = valueAt pageAt pageEndAt b;
       «page_end» = valueAt pageEndAt eoaAt b;
-      eoa = valueAt eoaAt smallAt b;
-      small = addressesOf (part smallAt largeAt b);
-      large = addressesOf (part largeAt messageLength b);
+      eoa = valueAt eoaAt headLength b;
+      small = take types vs;
+      large = drop types vs;
     }
+
+abbrev pub headFields : List ℕ → Fields
+headFields b = headWith (absent mostAddresses) b
+
+abbrev pub fieldsOf : List ℕ → Fields
+fieldsOf b = headWith (addressesAt headLength (addressCount (valueAt persistAt thresholdAt b)) b) b
 
 unfoldable pub headOf : Fields → List ℕ
 headOf f =
@@ -37,7 +43,7 @@ headOf f =
     ++ bytesOf (pageAt - thresholdAt) (f .threshold)
     ++ bytesOf (pageEndAt - pageAt) (f .page)
     ++ bytesOf (eoaAt - pageEndAt) (f .«page_end»)
-    ++ bytesOf (smallAt - eoaAt) (f .eoa)
+    ++ bytesOf (headLength - eoaAt) (f .eoa)
 
 unfoldable pub messageOf : Fields → List ℕ
-messageOf f = headOf f ++ bytesOfAll addressWidth (f .small) ++ bytesOfAll addressWidth (f .large)
+messageOf f = headOf f ++ tailOf (addressCount (f .persist)) (f .small ++ f .large)

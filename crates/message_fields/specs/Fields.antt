@@ -2,8 +2,9 @@
 --
 --   version               the version of every message
 --   Held f                the fields f have the widths of the message, as every value of the struct has
---   leastLength           no message is shorter
---   lengthOf f            how long the message of f is
+--   leastLength           no message is shorter: it has its head
+--   addressCount p        how many addresses stand behind the head with the persist byte p
+--   lengthOf f            how long the message of f is: its head, and the addresses behind it
 --   noFields              the fields of a refused message: all 0
 --
 --   numberOf a            document 01's number for an answer; refusalNumber why for a refusal
@@ -15,7 +16,7 @@
 -- Assumes nothing. Laws are in proofs/FieldLaws.antt.
 use mathlib.Core.Bool.{cond}
 use mathlib.Core.Path.{_≡_}
-use Prim.Native.Nat.{ℕ, _-_, _^_, _<_}
+use Prim.Native.Nat.{ℕ, _+_, _-_, _*_, _^_, _<_}
 use lib.Dec.{eqb}
 use lib.ListN.{length, replicate}
 use Rattle.little.specs.Little.{byteValues, Below}
@@ -25,8 +26,8 @@ use Rattle.message_fields.specs.declared.Refusal.{Refusal}
 use Rattle.message_fields.specs.declared.Refusal.the-variants.{Short, Version, Field}
 use Rattle.message_fields.specs.declared.Answer.{Answer}
 use Rattle.message_fields.specs.declared.Answer.the-variants.{Done, Refused}
-use Rattle.message_fields.specs.Layout.{strategyAt, persistAt, thresholdAt, pageAt, pageEndAt, eoaAt, smallAt}
-use Rattle.message_fields.specs.Layout.{messageLength, types, addressWidth}
+use Rattle.message_fields.specs.Layout.{strategyAt, persistAt, thresholdAt, pageAt, pageEndAt, eoaAt, headLength}
+use Rattle.message_fields.specs.Layout.{types, addressWidth, mostAddresses}
 use Rattle.refusals.specs.AnswerNumbers.{sliceTooShort, otherVersion, brokenField}
 
 -- ---- the fields
@@ -40,17 +41,20 @@ pub record Held (f : Fields) : Type 0 where
   pub threshold : f .threshold < byteValues ^ (pageAt - thresholdAt)
   pub page : f .page < byteValues ^ (pageEndAt - pageAt)
   pub page-end : f .«page_end» < byteValues ^ (eoaAt - pageEndAt)
-  pub eoa : f .eoa < byteValues ^ (smallAt - eoaAt)
+  pub eoa : f .eoa < byteValues ^ (headLength - eoaAt)
   pub six-small : length (f .small) ≡ types
   pub small : Below addressWidth (f .small)
   pub six-large : length (f .large) ≡ types
   pub large : Below addressWidth (f .large)
 
 abbrev pub leastLength : ℕ
-leastLength = messageLength
+leastLength = headLength
 
-abbrev pub lengthOf : Fields → ℕ
-lengthOf f = messageLength
+unfoldable pub addressCount : ℕ → ℕ
+addressCount p = cond (eqb p 0) 0 mostAddresses
+
+unfoldable pub lengthOf : Fields → ℕ
+lengthOf f = headLength + addressCount (f .persist) * addressWidth
 
 unfoldable pub noFields : Fields
 noFields =

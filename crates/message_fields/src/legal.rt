@@ -9,7 +9,7 @@ const LAST_STRATEGY: u8 = 3;
 const LAST_PERSIST: u8 = 1;
 
 // The undefined address: all ones.
-const UNDEFINED: u64 = 18446744073709551615;
+pub const UNDEFINED: u64 = 18446744073709551615;
 
 // Whether the addresses are all undefined.
 fn are_undefined(addresses: [u64; TYPES]) -> bool

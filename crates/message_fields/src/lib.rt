@@ -9,7 +9,7 @@ use refusals::DONE;
 use refusals::OTHER_VERSION;
 use refusals::SLICE_TOO_SHORT;
 
-// Where each field starts: it ends where the next one starts, and the last one where the message does.
+// Where each field of the head starts: it ends where the next one starts, and the last one where the head does.
 pub const VERSION_AT: usize = 0;
 
 pub const STRATEGY_AT: usize = 1;
@@ -24,19 +24,22 @@ pub const PAGE_END_AT: usize = 19;
 
 pub const EOA_AT: usize = 21;
 
-pub const SMALL_AT: usize = 29;
+pub const HEAD_LENGTH: usize = 29;
+
+// Where the addresses start that a message with persistence has behind its head: those of the small managers, and of the large ones.
+pub const SMALL_AT: usize = HEAD_LENGTH;
 
 pub const LARGE_AT: usize = 77;
 
-pub const MESSAGE_LENGTH: usize = 125;
+pub const FULL_LENGTH: usize = 125;
 
-// The addresses of the small managers, and of the large ones: one for each type, of this width.
+// Of each there is one for each type, of this width.
 pub const TYPES: usize = 6;
 
 pub const ADDRESS_WIDTH: usize = 8;
 
 // No message is shorter than this.
-pub const LEAST_LENGTH: usize = MESSAGE_LENGTH;
+pub const LEAST_LENGTH: usize = HEAD_LENGTH;
 
 pub const VERSION: u8 = 1;
 
@@ -83,11 +86,14 @@ pub fn number_of(answer: Answer) -> u64
     }
 }
 
-// How long the message of the fields is.
-pub fn length_of(_fields: Fields) -> usize
-    ensures { λ r. ⌜ r ≡ lengthOf «_fields» ⌝ }
+// How long the message of the fields is: without persistence it ends where its head does.
+pub fn length_of(fields: Fields) -> usize
+    ensures { λ r. ⌜ r ≡ lengthOf fields ⌝ }
 {
-    MESSAGE_LENGTH
+    if fields.persist == 0 {
+        return HEAD_LENGTH;
+    }
+    FULL_LENGTH
 }
 
 // Where the part behind the message starts: at the front where the message is refused.

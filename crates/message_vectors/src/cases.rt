@@ -1,5 +1,5 @@
 // What a case asks of the message. A question answers whether all is as expected, and prints what is not.
-ghost use Prim.Native.Nat.{_+_, _≤_};
+ghost use Prim.Native.Nat.{_+_, _≤_, _<_};
 ghost use lib.ListN.{length};
 use crate::tell;
 use crate::tell::agree;
@@ -10,8 +10,13 @@ use script::words::is_text;
 use show::text::say;
 use show::words::same_words;
 
-// How long a message is.
-pub const MESSAGE: usize = 125;
+// How long a message is without persistence, and with its addresses.
+pub const HEAD: usize = 29;
+
+pub const FULL: usize = 125;
+
+// Where its persist byte stands.
+pub const PERSIST_AT: usize = 2;
 
 // How long the lent memory is.
 pub const BLOCK: usize = 200;
@@ -52,10 +57,29 @@ pub fn tail(bytes: &[u8], at: usize) -> &[u8]
     &bytes[at..]
 }
 
+// A block with another byte at a place.
+pub fn with_byte(block: &[u8; BLOCK], at: usize, byte: u8) -> [u8; BLOCK]
+    requires { ⌜ at < 200 ⌝ }
+{
+    let mut next = *block;
+    next[at] = byte;
+    next
+}
+
 // The fields of a good message.
 pub fn fields_in(good: &[u8; BLOCK]) -> Fields {
-    let found = message::read(head(good, MESSAGE));
+    let found = message::read(head(good, FULL));
     found.fields
+}
+
+// How long the message of the fields is to be.
+pub fn length_due(fields: Fields) -> usize
+    ensures { λ r. ⌜ (0 < r) × (r ≤ 125) ⌝ }
+{
+    if fields.persist == 0 {
+        return HEAD;
+    }
+    FULL
 }
 
 fn six(n: [u64; NUMBERS], from: usize) -> [u64; 6]

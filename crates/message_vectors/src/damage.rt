@@ -1,9 +1,9 @@
 // Each of the first three bytes of a good message is given each of its values.
 ghost use Prim.Native.Nat.{_<_};
 use crate::cases::BLOCK;
-use crate::cases::MESSAGE;
-use crate::cases::block_with;
+use crate::cases::FULL;
 use crate::cases::head;
+use crate::cases::with_byte;
 use crate::tell;
 use crate::tell::agree;
 use crate::tell::end;
@@ -11,7 +11,6 @@ use crate::tell::finish;
 use crate::tell::item;
 use crate::tell::label;
 use crate::tell::labelled;
-use figures::text::lay;
 use show::claim::Tally;
 use show::claim::say_verdict;
 
@@ -19,9 +18,8 @@ use show::claim::say_verdict;
 fn answer_with(good: &[u8; BLOCK], at: usize, byte: u8) -> u64
     requires { ⌜ at < 200 ⌝ }
 {
-    let mut bytes = block_with(head(good, MESSAGE), 0);
-    lay(&mut bytes, at, &[byte]);
-    let found = message::read(head(&bytes, MESSAGE));
+    let bytes = with_byte(good, at, byte);
+    let found = message::read(head(&bytes, FULL));
     let answer = found.answer;
     message::number_of(answer)
 }

@@ -2,8 +2,8 @@
 // breaks one is refused 12, also where no byte is lent, and no byte is written.
 ghost use Prim.Native.Nat.{_<_};
 use crate::cases::BLOCK;
-use crate::cases::MESSAGE;
 use crate::cases::fields_in;
+use crate::cases::length_due;
 use crate::cases::reads;
 use crate::cases::say_read;
 use crate::cases::untouched;
@@ -78,7 +78,8 @@ fn with(fields: Fields, i: usize) -> Fields
 fn kept(fields: Fields) -> bool {
     let mut block = untouched();
     let answer = message::write(fields, &mut block);
-    agree(tell::WRITE, 0, message::number_of(answer)) && reads(&block, 0, fields, BLOCK - MESSAGE)
+    agree(tell::WRITE, 0, message::number_of(answer))
+        && reads(&block, 0, fields, BLOCK - length_due(fields))
 }
 
 // Fields that break one are refused.
@@ -101,7 +102,7 @@ fn edge(t: Tally, fields: Fields, keeps: bool) -> Tally {
         let held = kept(fields);
         say_fields(held, fields);
         item(tell::WRITE, 0);
-        say_read(0, BLOCK - MESSAGE);
+        say_read(0, BLOCK - length_due(fields));
         return finish(t, held);
     }
     let held = broken(fields);

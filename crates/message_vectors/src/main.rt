@@ -7,23 +7,36 @@ mod edges;
 mod lengths;
 mod lines;
 mod middle;
+mod order;
 mod tell;
 mod vectors;
 
 ghost use Prim.Native.Nat.{_≤_};
 ghost use lib.ListN.{length};
 use cases::BLOCK;
+use cases::HEAD;
+use cases::PERSIST_AT;
+use cases::block_with;
+use cases::head;
 use cases::untouched;
+use cases::with_byte;
 use lines::is_name;
 use lines::line;
 use lines::next_line;
 use show::claim::Tally;
 
-// The claims over one good message.
+// The claims over one good message with its addresses, and over it without persistence: with the bytes of the addresses behind it, and with
+// others.
 fn more(t: Tally, good: &[u8; BLOCK]) -> Tally {
+    let bare = with_byte(good, PERSIST_AT, 0);
+    let alone = block_with(head(&bare, HEAD), 0);
     let t = damage::damages(t, good);
+    let t = order::order(t, good);
     let t = lengths::lengths(t, good);
+    let t = lengths::lengths(t, &bare);
+    let t = lengths::lengths(t, &alone);
     let t = middle::middle(t, good);
+    let t = middle::middle(t, &bare);
     edges::edges(t, good)
 }
 

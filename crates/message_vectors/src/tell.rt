@@ -50,6 +50,14 @@ pub const OTHERS: u64 = 20;
 
 pub const VALUE: u64 = 21;
 
+pub const VERSION: u64 = 22;
+
+pub const BEHIND: u64 = 23;
+
+pub const LENGTHS: u64 = 24;
+
+pub const START: u64 = 25;
+
 pub fn label(k: u64) {
     let labels: &[u8] = b"read \n\
                           bytes that follow \n\
@@ -72,7 +80,11 @@ pub fn label(k: u64) {
                           legal from \n\
                           to \n\
                           read of every other value \n\
-                          of the value ";
+                          of the value \n\
+                          version \n\
+                          the byte behind its head \n\
+                          lengths from \n\
+                          what follows starts at ";
     say_nth(labels, k);
 }
 

@@ -1,14 +1,14 @@
-// The vectors: a message with its addresses is read to the vector's fields and written back to the same bytes; one that ends before them, as
-// HDF5 writes it without persistence, is refused 10, since document 01's message always has 125 bytes.
+// The vectors: a message is read to the vector's fields and written back to the same bytes, one with its addresses and one that ends before
+// them, as HDF5 writes it without persistence.
 ghost use Prim.Native.Nat.{_≤_};
 ghost use lib.ListN.{length};
 use crate::cases::BLOCK;
-use crate::cases::MESSAGE;
+use crate::cases::FULL;
+use crate::cases::HEAD;
 use crate::cases::NUMBERS;
 use crate::cases::block_with;
 use crate::cases::fields_of;
 use crate::cases::head;
-use crate::cases::no_fields;
 use crate::cases::reads;
 use crate::cases::say_read;
 use crate::cases::untouched;
@@ -46,10 +46,13 @@ pub fn bytes_said(text: &[u8], out: &mut [u8; BLOCK]) -> usize {
     0
 }
 
-// The number that a word says, and 0 where it says none.
+// What an address is to be that is not there: all ones.
+const ABSENT: u64 = 18446744073709551615;
+
+// The number that a word says. Where a line has '-' and then no words, it has no addresses.
 fn value(word: &[u8]) -> u64 {
     let Number::Is(n) = number_of(word) else {
-        return 0;
+        return ABSENT;
     };
     n
 }
@@ -70,32 +73,39 @@ fn numbers(text: &[u8]) -> [u64; NUMBERS] {
     found
 }
 
-// How many bytes stand behind the message in n bytes.
-fn behind(n: usize) -> usize {
-    if MESSAGE <= n {
-        return n - MESSAGE;
+// How long the message is whose fields a line says: whether its addresses are there, the line says by itself.
+fn length_said(text: &[u8]) -> usize
+    ensures { λ r. ⌜ r ≤ 125 ⌝ }
+{
+    if count_words(text, 0) == NUMBERS {
+        return FULL;
+    }
+    HEAD
+}
+
+// How many of n bytes stand behind a message of this length.
+fn behind(n: usize, length: usize) -> usize {
+    if length <= n {
+        return n - length;
     }
     0
 }
 
-// Whether a message with its addresses is read and written back.
-fn whole(bytes: &[u8; BLOCK], n: usize, fields: Fields) -> bool {
-    let same = block_with(head(bytes, MESSAGE), 0);
-    reads(head(bytes, n), 0, fields, behind(n)) && writes(fields, BLOCK, 0, &same)
+// Whether a message of this length, in front of n bytes, is read and written back.
+fn whole(bytes: &[u8; BLOCK], n: usize, length: usize, fields: Fields) -> bool
+    requires { ⌜ length ≤ 200 ⌝ }
+{
+    let same = block_with(head(bytes, length), 0);
+    reads(head(bytes, n), 0, fields, behind(n, length)) && writes(fields, BLOCK, 0, &same)
 }
 
 // A vector with its name, its bytes in a block, and the line of its fields.
 fn claim(t: Tally, name: &[u8], bytes: &[u8; BLOCK], n: usize, said: &[u8]) -> Tally {
-    if count_words(said, 0) == NUMBERS {
-        let held = whole(bytes, n, fields_of(numbers(said)));
-        say_vector(held, name, n);
-        say_read(0, behind(n));
-        item(tell::WRITE, 0);
-        return finish(t, held);
-    }
-    let held = reads(head(bytes, n), 10, no_fields(), n);
+    let length = length_said(said);
+    let held = whole(bytes, n, length, fields_of(numbers(said)));
     say_vector(held, name, n);
-    say_read(10, n);
+    say_read(0, behind(n, length));
+    item(tell::WRITE, 0);
     finish(t, held)
 }
 

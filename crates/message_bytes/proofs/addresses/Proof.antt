@@ -6,7 +6,7 @@ use lib.ListN.{length, take, length-set}
 use borrow.Author.Needs.{needs}
 use Rattle.little.proofs.LittleLaws.{numbers-up, numbers-end}
 use Rattle.message_fields.specs.Layout.{types, addressWidth}
-use Rattle.message_bytes.specs.Parts.{addressesOf}
+use Rattle.message_bytes.specs.Tail.{addressesOf}
 use Rattle.message_bytes.proofs.addresses.Statement.{statement}
 use Rattle.message_bytes.proofs.addresses.Tie as tie
 
