@@ -2,30 +2,28 @@
 --
 -- In this order: addresses; bytes say the fields that are read out of them, and no others; the message of fields is read back by the bytes in
 -- front of which it stands; bytes are the message of the fields that they say. Head and addresses are taken apart once, and the addresses'
--- laws hold for any number of them, so that no law here goes by the length of a message.
+-- laws hold for any number of them, so that no law here goes by the length of a message; that `Addresses` goes by persist is met in `six-said`.
 --
 -- Not here: which fields are legal (RuleLaws). Assumes nothing.
 use Prim.Native.Nat.{ℕ, _+_, _-_, _*_, _^_, _≤_, _<_}
 use mathlib.Core.List.{List, [], _++_}
 use mathlib.Core.Path.{_≡_, refl, sym, ap, _∙_}
 use native.Mathlib.Omega.{arith}
-use lib.Dec.{lit<}
 use lib.ListN.{length, take, drop, getD, length-append, length-drop, take-append-drop}
 use lib.Seq.{ext-getD, getD-take, getD-drop, length-take-le, take-at, drop-at}
 use Rattle.little.proofs.LittleLaws.{front-split, take-part, little-bytesOf, length-bytesOf, bytesOf-part, length-part, bytes-part, value-lt}
-use Rattle.little.proofs.LittleLaws.{below-take, below-drop, below-append, below-replicate, below-numbers, bytes-drop}
-use Rattle.little.specs.Little.{byteValues, little, bytesOf, numbers, part, valueAt, Bytes, Below}
+use Rattle.little.proofs.LittleLaws.{below-take, below-drop, below-append}
+use Rattle.little.specs.Little.{byteValues, little, bytesOf, part, valueAt, Bytes, Below}
 use Rattle.message.proofs.RuleLaws.{OthersAbsent}
 use Rattle.message.specs.Promises.{Undefined, Addresses, Says}
 use Rattle.message_bytes.proofs.PartLaws.{length-head, length-both, fields-read}
-use Rattle.message_bytes.proofs.TailLaws.{length-addresses-at, address-there, address-absent, tail-read, read-tail}
+use Rattle.message_bytes.proofs.TailLaws.{length-addresses-at, below-addresses, address-there, address-absent, tail-read, read-tail}
 use Rattle.message_bytes.specs.Parts.{headWith, fieldsOf, headOf, messageOf}
-use Rattle.message_bytes.specs.Tail.{absent, addressesAt, tailOf}
+use Rattle.message_bytes.specs.Tail.{addressesAt, tailOf}
 use Rattle.message_fields.proofs.FieldLaws.{count-without, count-with, count-most, length-by-count}
 use Rattle.message_fields.specs.Fields.{version, Held, addressCount, lengthOf}
 use Rattle.message_fields.specs.Layout.{versionAt, strategyAt, persistAt, thresholdAt, pageAt, pageEndAt, eoaAt, headLength, smallAt, largeAt}
 use Rattle.message_fields.specs.Layout.{types, addressWidth, mostAddresses}
-use Rattle.message_fields.specs.Legal.{undefined}
 use Rattle.message_fields.specs.declared.Fields.{Fields}
 use Rattle.pages.proofs.Numbers.{split}
 
@@ -95,11 +93,7 @@ module _ (p : ℕ) (b : List ℕ) where
   large-said a = six-said p types b (drop types (allAt p b)) (omega arith) length-large large-at a
 
   below-all : Bytes b → Below addressWidth (allAt p b)
-  unfolding addressesAt
-  below-all h =
-      below-append addressWidth (numbers addressWidth (addressCount p) (drop headLength b)) (absent (mostAddresses - addressCount p))
-      (below-numbers addressWidth (addressCount p) (drop headLength b) (bytes-drop headLength b h))
-      (below-replicate addressWidth (mostAddresses - addressCount p) undefined (lit< tt))
+  below-all h = below-addresses headLength (addressCount p) (count-most p) b h
 
 -- ---- what bytes say
 

@@ -1,17 +1,18 @@
 -- The laws of the addresses behind a head, over the place where it ends and their number.
 --
--- In this order: no addresses, and all of them; how many addresses and bytes there are; the address at a place; what is laid is read, and what
--- is read is laid.
+-- In this order: no addresses, and all of them; how many addresses and bytes there are, and how large; the address at a place; what is laid is
+-- read, and what is read is laid.
 --
 -- Not here: laws of numbers in bytes (little/proofs/LittleLaws.antt). Assumes nothing.
 use Prim.Native.Nat.{ℕ, _+_, _-_, _*_, _≤_, _<_}
 use mathlib.Core.List.{List, [], _++_, append-nil}
 use mathlib.Core.Path.{_≡_, refl, sym, ap, _∙_}
 use native.Mathlib.Omega.{arith}
+use lib.Dec.{lit<}
 use lib.ListN.{length, take, drop, getD, length-append, length-replicate, getD-replicate, List·getD-append, take-append-drop}
 use lib.Seq.{length-take-le, take-all, take-at, drop-at, getD-append-add, drop-drop}
-use Rattle.little.proofs.LittleLaws.{length-numbers, length-bytesOfAll, below-take, numbers-bytesOfAll, bytesOfAll-numbers, bytes-part, length-part}
-use Rattle.little.proofs.LittleLaws.{numbers-part, numbers-add, getD-numbers}
+use Rattle.little.proofs.LittleLaws.{length-numbers, length-bytesOfAll, numbers-bytesOfAll, bytesOfAll-numbers, numbers-part, numbers-add, getD-numbers}
+use Rattle.little.proofs.LittleLaws.{below-take, below-append, below-replicate, below-numbers, bytes-drop, bytes-part, length-part}
 use Rattle.little.specs.Little.{numbers, bytesOfAll, part, valueAt, Bytes, Below}
 use Rattle.message_bytes.specs.Tail.{absent, addressesOf, addressesAt, tailOf}
 use Rattle.message_fields.specs.Layout.{types, addressWidth, addressesLength, mostAddresses}
@@ -60,6 +61,13 @@ module _ (at k : ℕ) (h : k ≤ mostAddresses) (b : List ℕ) where
   pub length-addresses-at : length (addressesAt at k b) ≡ mostAddresses
   unfolding addressesAt
   length-addresses-at = simp (length-append, length-numbers, length-replicate) (omega arith)
+
+  pub below-addresses : Bytes b → Below addressWidth (addressesAt at k b)
+  unfolding addressesAt
+  below-addresses w =
+      below-append addressWidth (numbers addressWidth k (drop at b)) (absent (mostAddresses - k))
+      (below-numbers addressWidth k (drop at b) (bytes-drop at b w))
+      (below-replicate addressWidth (mostAddresses - k) undefined (lit< tt))
 
   -- ---- the address at a place
 
