@@ -33,7 +33,7 @@ pub const LARGE_AT: usize = 77;
 
 pub const FULL_LENGTH: usize = 125;
 
-// Of each there is one for each type, of this width.
+// Of the small managers and of the large ones there is an address for each type, of this width.
 pub const TYPES: usize = 6;
 
 pub const ADDRESS_WIDTH: usize = 8;
