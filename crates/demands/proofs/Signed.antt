@@ -14,7 +14,7 @@ use Rattle.demands.proofs.Refusals.{refusals}
 use Rattle.demands.proofs.Run.{the-run}
 use Rattle.demands.specs.Signed.{Signed}
 use Rattle.literal.proofs.Statements.{allocating, releasing, extending, shortening}
-use Rattle.message.proofs.Promised.{lengths, read-exact, rest-exact, write-exact, acceptance, round-trip, one-meaning}
+use Rattle.message_promises.proofs.Promised.{lengths, read-exact, rest-exact, write-exact, acceptance, round-trip, one-meaning}
 use Rattle.table.proofs.Theorems.{determined, one-table}
 
 pub signed : Signed

@@ -2,12 +2,12 @@
 -- proof does not pass the check; docs/PROMISES.md has for each field an edit that its proof refuses.
 --
 -- The statements: those on the calls in Demands.antt, those on tables in table/specs/Theorems.antt, document 01's rules read literally in
--- literal/specs/Statements.antt, those on the message in message/specs/Promises.antt.
+-- literal/specs/Statements.antt, those on the message in message_promises/specs/Promises.antt.
 --
 -- Assumes nothing.
 use Rattle.demands.specs.Demands.{Refusals, Keeps, Edits, NewBytes, Placing, Exactly, Listings, Runs, AnyOrder, TwoOrders, TheRun, OneResult}
 use Rattle.literal.specs.Statements.{Allocating, Releasing, Extending, Shortening}
-use Rattle.message.specs.Promises.{Lengths, ReadExact, RestExact, WriteExact, Acceptance, RoundTrip, OneMeaning}
+use Rattle.message_promises.specs.Promises.{Lengths, ReadExact, RestExact, WriteExact, Acceptance, RoundTrip, OneMeaning}
 use Rattle.table.specs.Theorems.{Determined, OneTable}
 
 pub record Signed : Type 0 where

@@ -1,5 +1,2 @@
--- The laws that the proofs of this crate cite, and last the theorems of specs/Promises.antt.
-pub mod RuleLaws
+-- The laws that the proofs of this crate cite, and those of `message_promises`.
 pub mod AnswerLaws
-pub mod SaysLaws
-pub mod Promised

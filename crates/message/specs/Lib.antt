@@ -1,4 +1,3 @@
--- What the contracts of `message` cite, and what is proved of it. Read Layout, Fields and Legal of `message_fields`, Parts of `message_bytes`,
--- then Message, Promises, and stop.
+-- What the contracts of `message` cite. Read Layout, Fields and Legal of `message_fields`, Tail and Parts of `message_bytes`, then Message. What is
+-- proved of it is in `message_promises`.
 pub mod Message
-pub mod Promises

@@ -7,9 +7,9 @@
 --   writeSaid a c         what a write said with the answer a, and left in the bytes c
 --   refusedWrite n b      refused with n: the bytes b as they came
 --   written f b           what a write of the fields f into the bytes b leaves
---   Wrote f b o           a write of f into b left o; f is held, so that the round trip of specs/Promises.antt asks nothing more
+--   Wrote f b o           a write of f into b left o; f is held, so that the round trip (`message_promises`) asks nothing more
 --
--- Assumes nothing. What is proved of these is in specs/Promises.antt. Not here: the fields, the answers with their numbers and where the part
+-- Assumes nothing. What is proved of these is in message_promises/specs/Promises.antt. Not here: the fields, the answers with their numbers and where the part
 -- behind a message starts (message_fields/specs), the fields in bytes (message_bytes/specs).
 use mathlib.Core.Path.{_≡_}
 use mathlib.Core.Bool.{cond, not}

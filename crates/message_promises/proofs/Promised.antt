@@ -12,14 +12,14 @@ use lib.ListN.{length, take, drop, take-append-drop, length-append}
 use lib.Seq.{take-at, drop-at}
 use Rattle.little.proofs.LittleLaws.{below-replicate}
 use Rattle.little.specs.Little.{valueAt, Bytes}
 use Rattle.message.proofs.AnswerLaws.{read-short, read-version, read-field, read-cut, read-done, read-cases}
 use Rattle.message.proofs.AnswerLaws.{follows-refused, follows-done, write-field, write-short, write-done}
-use Rattle.message.proofs.RuleLaws.{legal-true, true-legal, false-legal, legal-head, head-legal, head-broken, legal-absent}
-use Rattle.message.proofs.SaysLaws.{says-fields, fields-said, held-fields, message-said, said-message}
+use Rattle.message_promises.proofs.RuleLaws.{legal-true, true-legal, false-legal, legal-head, head-legal, head-broken, legal-absent}
+use Rattle.message_promises.proofs.SaysLaws.{says-fields, fields-said, held-fields, message-said, said-message}
 use Rattle.message.specs.Message.{reading, following, WriteOutcome, writeSaid, written}
-use Rattle.message.specs.Promises.{Legal, Says, NoMessage, HeadKept, ReadRow, too-short, other-version, broken-field, no-addresses, done}
-use Rattle.message.specs.Promises.{RestRow, whole, behind, WriteRow}
-use Rattle.message.specs.Promises.{Lengths, ReadExact, RestExact, WriteExact, Message, Acceptance, RoundTrip, OneMeaning}
+use Rattle.message_promises.specs.Promises.{Legal, Says, NoMessage, HeadKept, ReadRow, too-short, other-version, broken-field, no-addresses, done}
+use Rattle.message_promises.specs.Promises.{RestRow, whole, behind, WriteRow}
+use Rattle.message_promises.specs.Promises.{Lengths, ReadExact, RestExact, WriteExact, Message, Acceptance, RoundTrip, OneMeaning}
 use Rattle.message_bytes.proofs.PartLaws.{length-message, length-by-head, head-without, head-with}
 use Rattle.message_bytes.specs.Parts.{headWith, headFields, fieldsOf, messageOf}
 use Rattle.message_fields.proofs.FieldLaws.{length-by-count, length-without, length-with}

@@ -14,8 +14,8 @@ use lib.Seq.{ext-getD, getD-take, getD-drop, length-take-le, take-at, drop-at}
 use Rattle.little.proofs.LittleLaws.{front-split, take-part, little-bytesOf, length-bytesOf, bytesOf-part, length-part, bytes-part, value-lt}
 use Rattle.little.proofs.LittleLaws.{below-take, below-drop, below-append}
 use Rattle.little.specs.Little.{byteValues, little, bytesOf, part, valueAt, Bytes, Below}
-use Rattle.message.proofs.RuleLaws.{OthersAbsent}
-use Rattle.message.specs.Promises.{Undefined, Addresses, Says}
+use Rattle.message_promises.proofs.RuleLaws.{OthersAbsent}
+use Rattle.message_promises.specs.Promises.{Undefined, Addresses, Says}
 use Rattle.message_bytes.proofs.PartLaws.{length-head, length-both, fields-read}
 use Rattle.message_bytes.proofs.TailLaws.{length-addresses-at, below-addresses, address-there, address-absent, tail-read, read-tail}
 use Rattle.message_bytes.specs.Parts.{headWith, fieldsOf, headOf, messageOf}

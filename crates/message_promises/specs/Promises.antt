@@ -1,5 +1,5 @@
 -- What document 01 says of read, rest and write, as request E1 changed it, row by row and by its numbers, and not by how it is computed; and the
--- theorems that hold of the definitions in specs/Message.antt. The proofs are in proofs/Promised.antt.
+-- theorems that hold of the definitions in message/specs/Message.antt. The proofs are in proofs/Promised.antt.
 --
 --   Undefined vs          the addresses vs are all undefined
 --   HeadLegal s p P       strategy s, persist p and page size P keep their rules

@@ -14,7 +14,7 @@ use lib.Dec.{leb, eqb}
 use lib.ListN.{length, drop, length-replicate, getD-replicate, drop-of-length-le}
 use lib.Seq.{ext-getD}
 use borrow.Author.Tests.{eq-eqb, eqb-true, leb-true}
-use Rattle.message.specs.Promises.{Undefined, Legal, HeadKept}
+use Rattle.message_promises.specs.Promises.{Undefined, Legal, HeadKept}
 use Rattle.message_bytes.proofs.PartLaws.{length-both}
 use Rattle.message_bytes.specs.Parts.{headWith, headFields}
 use Rattle.message_bytes.specs.Tail.{absent}
