@@ -1,6 +1,7 @@
 -- An accepted call of a sound table leaves the table and the state that good live pieces determine.
 --
 --   Changed sp w ps o      o is accepted, with what the good live pieces ps determine, within M and C
+--   changed-sound          then state and words are sound together
 --   Found, naming-accepted     an accepted call that names a piece has found it, and did to it what its half says
 --   released-changed, resized-changed     each call; sizeOf way z m, the size of a piece of z bytes that is m longer, or m shorter
 --   PutAt t n b, allocated-put     an accepted allocation: b is the rule's place, the piece fits there, and so it is changed
@@ -15,7 +16,7 @@ use lib.ListN.{length}
 use borrow.Author.Tests.{ltb-false, eqb-false}
 use Rattle.accepted.proofs.AmongLaws.{lives-entry}
 use Rattle.accepted.proofs.EditedLaws.{IsOr, is-it, is-old, in-insert, in-remove, ResizedOr, is-resized, is-kept, in-resize, end-within}
-use Rattle.accepted.proofs.KeptLaws.{tabled}
+use Rattle.accepted.proofs.KeptLaws.{tabled, tabled-sound}
 use Rattle.accepted.proofs.LongerLaws.{found-stands, From, from, room-less, less-whole, room-more, more-reach, Longer, longer}
 use Rattle.accepted.proofs.PlaceRule.{class-of-large, PlaceFound, inside, outside, place-found}
 use Rattle.accepted.proofs.PlaceRule.{pos as goes-pos, Goes, page-within, section-goes, end-goes}
@@ -64,6 +65,10 @@ pub record Changed (sp : Space) (w : List ℕ) (ps : List Piece) (o : Outcome) :
   pub within : endOf (sp .page) ps ≤ sp .limit
   pub few : length (fill (sp .page) ps) ≤ capacity (length w)
   pub is : o ≡ record { refusal = 0; state = stateOf sp ps; words = tabled sp w ps }
+
+pub changed-sound : {sp : Space} {w : List ℕ} {ps : List Piece} {o : Outcome} → SoundSpace sp w → Changed sp w ps o → SoundSpace (o .state) (o .words)
+changed-sound {sp} {w} {ps} s h =
+    subst (λ (v : Outcome). SoundSpace (v .state) (v .words)) (sym (h .is)) (tabled-sound sp w ps s (h .good) (h .within) (h .few))
 
 -- ---- a test that an accepted call has passed
 

@@ -1,65 +1,59 @@
 -- Laws of how an accepted change ends.
 --
---   settled-full, settled-room    the two outcomes of `settledTable`
---   plan-counted, spliced-plan    a plan has counted what it puts in, and a splice as planned leaves the table of the planned live pieces
---   plan-fits                     a sound table lets a plan be made
---   right-without, right-with     which is one for the new live pieces
---   carry-fits, carried           and can be carried out; then the change is settled
+--   room-full, room-ready                 the two outcomes of `ifRoom`
+--   plan-fits                             a sound table lets a plan be made
+--   ready-without, ready-with             one with room is a plan for the new live pieces
+--   full-without, full-with               and without room the new live pieces need too many entries
+--   carried-laid, -entries, -new          carried out, a plan leaves the entries in front, the new ones, and those behind
+--   carry-fits, carried-table             one with room can be carried out, and then the table is that of the new live pieces
 --
 -- Assumes nothing.
 use Prim.Native.Nat.{ℕ, _+_, _-_, _*_, _≤_, _<_}
-use mathlib.Core.List.{List, [], _∷_}
+use mathlib.Core.List.{List, [], _∷_, _++_}
 use mathlib.Core.Path.{_≡_, refl, sym, ap, _∙_}
 use native.Mathlib.Omega.{arith}
-use lib.ListN.{length, length-append}
+use lib.ListN.{length, take, length-append}
+use lib.Seq.{take-at, drop-at}
 use borrow.Author.Tests.{lt-ltb, le-ltb}
 use Rattle.change.proofs.PlanLaws.{planned-without, planned-with}
 use Rattle.change.specs.Change.{planWithout, planWith, PlanFits, Planned}
 use Rattle.change.specs.declared.plan.Plan.{Plan}
 use Rattle.edit.proofs.EditLaws.{spliced-table}
-use Rattle.edit.specs.Edit.{spliced}
 use Rattle.edit.specs.New.{newEntries}
-use Rattle.pieces.proofs.WordLaws.{length-entries, take-entries, drop-entries}
+use Rattle.pages.proofs.Numbers.{split}
+use Rattle.pieces.proofs.WordLaws.{entries-of-table, length-entries, entries-append, take-entries, drop-entries}
 use Rattle.pieces.specs.Words.{entryWords, entries, table}
 use Rattle.pieces.specs.declared.Piece.{Piece}
 use Rattle.rules.specs.Between.{livesWith}
-use Rattle.settle.specs.Settle.{settledTable, settleSaid, SettleFits, CarryFits}
-use Rattle.settle.specs.declared.Settling.the-variants.{Done, TableFull}
+use Rattle.settle.specs.Settle.{ifRoom, carriedOut, SettleFits, CarryFits, Settles}
+use Rattle.settle.specs.declared.Settling.the-variants.{Ready, TableFull}
 use Rattle.table.proofs.Theorems.{count-fits, sound-table}
-use Rattle.table.specs.Fill.{fill, endOf}
+use Rattle.table.specs.Fill.{fill}
 use Rattle.table.specs.Sound.{capacity, Sound}
 
 -- ---- the two outcomes
 
-module _ (P : ℕ) (w : List ℕ) (ps : List Piece) where
-  pub settled-full : capacity (length w) < length (fill P ps) → settledTable P w ps ≡ settleSaid TableFull w
-  unfolding settledTable
-  settled-full h = rw (lt-ltb (capacity (length w)) (length (fill P ps)) h) refl
+module _ (w : List ℕ) (plan : Plan) where
+  pub room-full : capacity (length w) < plan .count → ifRoom w plan ≡ TableFull
+  unfolding ifRoom
+  room-full h = rw (lt-ltb (capacity (length w)) (plan .count) h) refl
 
-  pub settled-room : length (fill P ps) ≤ capacity (length w)
-      → settledTable P w ps ≡ settleSaid (Done (endOf P ps) (length (fill P ps))) (table (length w) (fill P ps))
-  unfolding settledTable
-  settled-room h = rw (le-ltb (capacity (length w)) (length (fill P ps)) h) refl
+  pub room-ready : plan .count ≤ capacity (length w) → ifRoom w plan ≡ Ready plan
+  unfolding ifRoom
+  room-ready h = rw (le-ltb (capacity (length w)) (plan .count) h) refl
 
--- ---- the splice of a plan
+  -- r is what was answered
+  is-ready : {q : Plan} → Ready q ≡ ifRoom w plan → (q ≡ plan) × (plan .count ≤ capacity (length w))
+  is-ready {q} e =
+      split (plan .count) (capacity (length w))
+      (λ h. let r : Ready q ≡ Ready plan = e ∙ room-ready h in let q-is : q ≡ plan = cc in (q-is, h))
+      (λ h. let r : Ready q ≡ TableFull = e ∙ room-full h in let z : _≡_ {A = ℕ} 0 1 = cc in absurd (omega arith))
 
--- what a plan puts in, it has counted
-plan-counted : {P n : ℕ} {w : List ℕ} {ps : List Piece} {plan : Plan} → Planned P n w ps plan
-    → plan .count ≡ plan .from + length (newEntries (plan .new)) + (n - plan .to)
-plan-counted p =
-    let e = simp (length-append, length-entries) at (ap length (p .filled)) in
-    omega (arith, p .count)
-
-spliced-plan : {P M E n Q : ℕ} {w : List ℕ} {ps : List Piece} {plan : Plan} {v : List ℕ} → Sound P M E n w → Planned Q n w ps plan
-    → v ≡ spliced w n (plan .from) (plan .to) (newEntries (plan .new)) → v ≡ table (length w) (fill Q ps)
-spliced-plan {n = n} {Q = Q} {w = w} {ps = ps} {plan = plan} s p q =
-    let es : List Piece = entries w 0 n in
-    let l : length es ≡ n = length-entries w 0 n in
-    let fits : length es * entryWords ≤ length w = rw l (count-fits (s .ranges)) in
-    let t = spliced-table (length w) es (plan .from) (plan .to) (newEntries (plan .new)) fits (p .low) (rw l (p .high)) in
-    let front = take-entries w (plan .from) n (omega (arith, p .low, p .high)) in
-    let back = drop-entries w (plan .to) n (p .high) in
-    q ∙ rw (front, back, p .filled, l, ← sound-table s) at t
+  is-full : TableFull ≡ ifRoom w plan → capacity (length w) < plan .count
+  is-full e =
+      split (plan .count) (capacity (length w))
+      (λ h. let r : TableFull ≡ Ready plan = e ∙ room-ready h in let z : _≡_ {A = ℕ} 0 1 = cc in absurd (omega arith))
+      (λ h. h)
 
 -- ---- a sound table lets a plan be made
 
@@ -78,32 +72,96 @@ plan-fits f low high =
       high = high;
     }
 
--- the plan that is made is one for the new live pieces
-module _ {P E n i j : ℕ} {w : List ℕ} (f : SettleFits P E n i j w) (plan : Plan) where
-  pub right-without : plan ≡ planWithout P E n i j w → Planned P n w (livesWith w n i j []) plan
-  right-without is = rw is (planned-without (plan-fits f (f .low) (f .high)))
+-- ---- what was decided of it
 
-  pub right-with : (x : Piece) → plan ≡ planWith P E n i j w x → Planned P n w (livesWith w n i j (x ∷ [])) plan
-  right-with x is = rw is (planned-with (plan-fits f (f .low) (f .high)) x)
+-- of a plan for the live pieces ps
+module _ {P n : ℕ} {w : List ℕ} {ps : List Piece} {plan : Plan} (p : Planned P n w ps plan) where
+  settles : {q : Plan} → Ready q ≡ ifRoom w plan → Settles P n w ps q
+  settles e = let r = is-ready w plan e in record { planned = rw (r .0) p; room = rw (r .0) (r .1) }
 
--- and can be carried out
-pub carry-fits : {P E n i j : ℕ} {w : List ℕ} {ps : List Piece} {plan : Plan} → SettleFits P E n i j w → Planned P n w ps plan → CarryFits n w plan
-carry-fits {P = P} {E = E} f p =
-    record {
-      page = P;
-      limit = f .limit;
-      end = E;
-      sound = f .sound;
-      low = p .low;
-      high = p .high;
-      counted = plan-counted p;
-    }
+  too-many : TableFull ≡ ifRoom w plan → capacity (length w) < length (fill P ps)
+  too-many e = omega (arith, is-full w plan e, p .count)
 
--- ---- the whole change
+-- of the plans that are made
+module _ {P E n i j : ℕ} {w : List ℕ} (f : SettleFits P E n i j w) where
+  without-right : Planned P n w (livesWith w n i j []) (planWithout P E n i j w)
+  without-right = planned-without (plan-fits f (f .low) (f .high))
 
-pub carried : {P M E n : ℕ} {w : List ℕ} {plan : Plan} {v : List ℕ} → Sound P M E n w → (Q : ℕ) (ps : List Piece) → Planned Q n w ps plan
-    → v ≡ spliced w n (plan .from) (plan .to) (newEntries (plan .new)) → plan .count ≤ capacity (length w)
-    → settleSaid (Done (plan .end) (plan .count)) v ≡ settledTable Q w ps
-carried {w = w} s Q ps p q h =
-    let t = spliced-plan s p q in
-    (λ i. settleSaid (Done (p .ends i) (p .count i)) (t i)) ∙ sym (settled-room Q w ps (omega (arith, p .count)))
+  pub ready-without : {plan : Plan} → Ready plan ≡ ifRoom w (planWithout P E n i j w) → Settles P n w (livesWith w n i j []) plan
+  ready-without e = settles without-right e
+
+  pub full-without : TableFull ≡ ifRoom w (planWithout P E n i j w) → capacity (length w) < length (fill P (livesWith w n i j []))
+  full-without e = too-many without-right e
+
+  module _ (x : Piece) where
+    with-right : Planned P n w (livesWith w n i j (x ∷ [])) (planWith P E n i j w x)
+    with-right = planned-with (plan-fits f (f .low) (f .high)) x
+
+    pub ready-with : {plan : Plan} → Ready plan ≡ ifRoom w (planWith P E n i j w x) → Settles P n w (livesWith w n i j (x ∷ [])) plan
+    ready-with e = settles with-right e
+
+    pub full-with : TableFull ≡ ifRoom w (planWith P E n i j w x) → capacity (length w) < length (fill P (livesWith w n i j (x ∷ [])))
+    full-with e = too-many with-right e
+
+-- ---- a plan that is carried out
+
+-- the table has the planned entries in place of those that went
+module _ {n : ℕ} {w : List ℕ} {plan : Plan} (f : CarryFits n w plan) where
+  -- the entries of the table then
+  abbrev pub left : List Piece
+  left = entries w 0 (plan .from) ++ (newEntries (plan .new) ++ entries w (plan .to) (n - plan .to))
+
+  pub carried-laid : carriedOut n w plan ≡ table (length w) left
+  carried-laid =
+      let es : List Piece = entries w 0 n in
+      let l : length es ≡ n = length-entries w 0 n in
+      let fits : length es * entryWords ≤ length w = rw l (count-fits (f .sound .ranges)) in
+      let t = spliced-table (length w) es (plan .from) (plan .to) (newEntries (plan .new)) fits (f .low) (rw l (f .high)) in
+      let front = take-entries w (plan .from) n (omega (arith, f .low, f .high)) in
+      let back = drop-entries w (plan .to) n (f .high) in
+      rw (front, back, l, ← sound-table (f .sound)) at t
+
+  left-count : length left ≡ plan .count
+  left-count =
+      let e : length left ≡ plan .from + (length (newEntries (plan .new)) + (n - plan .to)) = simp (length-append, length-entries) in
+      omega (arith, f .counted)
+
+  pub carried-entries : entries (carriedOut n w plan) 0 (plan .count) ≡ left
+  carried-entries = rw (carried-laid, ← left-count) (entries-of-table (length w) left)
+
+  -- the new ones among them
+  pub carried-new : entries (carriedOut n w plan) (plan .from) (length (newEntries (plan .new))) ≡ newEntries (plan .new)
+  carried-new =
+      let v : List ℕ = carriedOut n w plan in
+      let new : List Piece = newEntries (plan .new) in
+      let rest : ℕ = n - plan .to in
+      let many : plan .count - plan .from ≡ length new + rest = omega (arith, f .counted) in
+      let from = drop-entries v (plan .from) (plan .count) (omega (arith, f .counted)) in
+      let behind = drop-at (entries w 0 (plan .from)) (new ++ entries w (plan .to) rest) (plan .from) (length-entries w 0 (plan .from)) in
+      let both : entries v (plan .from) (length new) ++ entries v (plan .from + length new) rest ≡ new ++ entries w (plan .to) rest =
+      sym (entries-append v (plan .from) (length new) rest) ∙ rw (many, carried-entries, behind) at (sym from) in
+      sym (take-at (entries v (plan .from) (length new)) _ (length new) (length-entries v (plan .from) (length new)))
+      ∙ (ap (take (length new)) both ∙ take-at new _ (length new) refl)
+
+module _ {P M E n Q : ℕ} {w : List ℕ} {ps : List Piece} {plan : Plan} (s : Sound P M E n w) (p : Settles Q n w ps plan) where
+  -- what a plan puts in, it has counted
+  plan-counted : plan .count ≡ plan .from + length (newEntries (plan .new)) + (n - plan .to)
+  plan-counted =
+      let e = simp (length-append, length-entries) at (ap length (p .planned .filled)) in
+      omega (arith, p .planned .count)
+
+  pub carry-fits : CarryFits n w plan
+  carry-fits =
+      record {
+        page = P;
+        limit = M;
+        end = E;
+        sound = s;
+        low = p .planned .low;
+        high = p .planned .high;
+        counted = plan-counted;
+        room = p .room;
+      }
+
+  pub carried-table : carriedOut n w plan ≡ table (length w) (fill Q ps)
+  carried-table = carried-laid carry-fits ∙ ap (table (length w)) (p .planned .filled)

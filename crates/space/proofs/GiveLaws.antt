@@ -6,9 +6,11 @@
 --   released-found, resized-found           which is its half, of the piece that was found
 --   found-in                                the entry of a named piece, in a sound table
 --   settle-fits, grow-fits, found-limit     the sums of a sound table stay within the limit
---   released-settled, resized-settled, kept-size     what becomes of the piece that was found
+--   released-change, -full, resized-change, -full, kept-size     what is decided on the piece that was found
+--   not-named-some, not-resized-some        no reason has the number 0
 --   longer-no-room, -beyond, -bytes, shorter-too-far, -bytes     its new size, test by test
 --   longer-fits, shorter-fits, new-size-fits         and the sums of that
+--   refuses-same, release-same, resize-same          a decision leads to what is equal to its outcome
 --
 -- Assumes nothing.
 use Prim.Native.Nat.{ℕ, _+_, _-_, _≤_, _<_}
@@ -18,6 +20,8 @@ use mathlib.Core.Path.{_≡_, refl, sym, ap, _∙_, subst⁻¹}
 use native.Mathlib.Omega.{arith}
 use lib.Dec.{eqb}
 use borrow.Author.Tests.{eq-eqb}
+use Rattle.change.specs.Change.{planWithout, planWith}
+use Rattle.change.specs.declared.plan.Plan.{Plan}
 use Rattle.find.proofs.FindLaws.{found-at}
 use Rattle.find.specs.Find.{findLive, FoundAt}
 use Rattle.find.specs.declared.Found.the-variants as finding
@@ -29,8 +33,8 @@ use Rattle.pieces.specs.Pieces.{piece, behind, classOf}
 use Rattle.pieces.specs.Words.{entryAt, entries}
 use Rattle.pieces.specs.declared.Class.{Class}
 use Rattle.pieces.specs.declared.Piece.{Piece}
-use Rattle.refusals.specs.AnswerNumbers.{notSound, notNamedNumber, notResizedNumber}
-use Rattle.refusals.specs.declared.NotNamed.the-variants.{NoBytes}
+use Rattle.refusals.specs.AnswerNumbers.{notSound, tableFull, notNamedNumber, notResizedNumber}
+use Rattle.refusals.specs.declared.NotNamed.the-variants.{NoBytes, NotLive}
 use Rattle.refusals.specs.declared.NotNamed.{NotNamed}
 use Rattle.refusals.specs.declared.NotResized.the-variants.{NoRoomBehind, BeyondLimit, TooLittleLeft}
 use Rattle.refusals.specs.declared.NotResized.{NotResized}
@@ -38,23 +42,39 @@ use Rattle.room.proofs.RoomLaws.{room-next, room-bytes, limit-kept, grows-last,
 use Rattle.room.specs.Room.{roomBehindb, growsBeyondb, GrowFits, remainsb}
 use Rattle.rules.proofs.SpliceLaws.{remove-at, resize-at}
 use Rattle.rules.specs.Editing.{names, remove, resize}
-use Rattle.settle.specs.Settle.{SettleFits}
-use Rattle.space.proofs.OutcomeLaws.{refusing-yes, refusing-no, sound-true}
+use Rattle.settle.proofs.SettleLaws.{ready-without, ready-with, full-without, full-with}
+use Rattle.settle.specs.Settle.{ifRoom, SettleFits}
+use Rattle.settle.specs.declared.Settling.the-variants.{Ready, TableFull}
+use Rattle.settle.specs.declared.Settling.{Settling}
+use Rattle.space.proofs.OutcomeLaws.{refusing-yes, refusing-no, sound-true, settled-carried, settled-not}
 use Rattle.space.specs.Giving.{nameOf, namedAs, namedIn, whyNot, whenNamed, naming, releasedAt, released}
 use Rattle.space.specs.Giving.{entriesBehind, newSize, resizedTo, resizedAt, resized}
-use Rattle.space.specs.Halves.{FoundIn, livesAround}
+use Rattle.space.specs.Halves.{FoundIn, livesAround, Carries, Refuses, ReleaseLeads, ResizeLeads}
 use Rattle.space.specs.Outcomes.{SoundSpace, soundb, entriesOf, livesOf, Outcome, refused, plain, settled}
 use Rattle.space.specs.declared.Space.{Space}
 use Rattle.space.specs.declared.give.Named.{Named}
 use Rattle.space.specs.declared.give.Named.the-variants.{At, Not}
 use Rattle.space.specs.declared.give.NewSize.{NewSize}
 use Rattle.space.specs.declared.give.NewSize.the-variants.{Bytes, Kept}
+use Rattle.space.specs.declared.give.ReleaseDecision.{ReleaseDecision}
+use Rattle.space.specs.declared.give.ResizeDecision.{ResizeDecision}
 use Rattle.space.specs.declared.give.Way.{Way}
 use Rattle.space.specs.declared.give.Way.the-variants.{Longer, Shorter}
 use Rattle.table.proofs.LivesLaws.{lives-append, lives-live}
 use Rattle.table.proofs.Theorems.{sound-good}
 use Rattle.table.proofs.TilingLaws.{ends-below, next-above}
 use Rattle.table.specs.Fill.{lives, Good}
+
+-- ---- no reason has the number 0
+
+not-named-some : (why : NotNamed) → notNamedNumber why ≡ 0 → ⊥
+not-named-some NoBytes e = omega (arith, e)
+not-named-some NotLive e = omega (arith, e)
+
+not-resized-some : (why : NotResized) → notResizedNumber why ≡ 0 → ⊥
+not-resized-some NoRoomBehind e = omega (arith, e)
+not-resized-some BeyondLimit e = omega (arith, e)
+not-resized-some TooLittleLeft e = omega (arith, e)
 
 -- ---- a named piece
 
@@ -102,11 +122,12 @@ module _ (sp : Space) (w : List ℕ) (zero : Bool) (a z : ℕ) where
 
   -- r is what the code's front answered, and y what it said of the refusal
   pub naming-not : (found : ℕ → Piece → Outcome) → SoundSpace sp w → {r : Named} {why y : NotNamed} → r ≡ namedIn sp w zero a z → r ≡ Not why
-      → y ≡ whyNot r → naming sp w zero a z found ≡ refused (notNamedNumber y) sp w
+      → y ≡ whyNot r → Refuses sp w (naming sp w zero a z found) (notNamedNumber y)
   unfolding whenNamed
   naming-not found s {why = why} {y = y} named told says =
       let y-is : why ≡ y = sym (says ∙ ap whyNot told) in
-      naming-sound found s ∙ (ap (whenNamed sp w found) (sym named ∙ told) ∙ ap (λ (v : NotNamed). refused (notNamedNumber v) sp w) y-is)
+      let e = naming-sound found s ∙ (ap (whenNamed sp w found) (sym named ∙ told) ∙ ap (λ (v : NotNamed). refused (notNamedNumber v) sp w) y-is) in
+      record { leads = sym e; some = not-named-some y }
 
   -- what is done to the piece that was found, which goes by its own address and size
   naming-found : (found : ℕ → ℕ → ℕ → Piece → Outcome) → SoundSpace sp w → (i : ℕ) (x : Piece) → At i x ≡ namedIn sp w zero a z
@@ -189,18 +210,33 @@ module _ (sp : Space) (w : List ℕ) (i : ℕ) (x : Piece) (f : FoundIn sp w i x
 
   -- ---- what becomes of it
 
-  pub released-settled : releasedAt sp (x .address) (x .size) w i x ≡ settled sp w (livesAround sp w i (i + 1) [])
+  released-settled : releasedAt sp (x .address) (x .size) w i x ≡ settled sp w (livesAround sp w i (i + 1) [])
   unfolding releasedAt
   released-settled = ap (settled sp w) removed-lives
 
-  pub resized-settled : (n : ℕ)
+  resized-settled : (n : ℕ)
       → resizedTo sp (x .address) (x .size) w (Bytes n) ≡ settled sp w (livesAround sp w i (i + 1) (piece (x .address) n (x .status) ∷ []))
   unfolding resizedTo
   resized-settled n = ap (settled sp w) (resized-lives n)
 
-  pub kept-size : (n : NewSize) (why : NotResized) → Kept why ≡ n → resizedTo sp (x .address) (x .size) w n ≡ refused (notResizedNumber why) sp w
+  -- r is what `settle` decided
+  module _ {r : Settling} (is : r ≡ ifRoom w (planWithout (sp .page) (sp .end) (sp .count) i (i + 1) w)) where
+    pub released-change : {plan : Plan} → r ≡ Ready plan → Carries sp w (releasedAt sp (x .address) (x .size) w i x) plan
+    released-change e = rw released-settled (settled-carried sp w _ (f .sound) (ready-without settle-fits (sym e ∙ is)))
+
+    pub released-full : r ≡ TableFull → Refuses sp w (releasedAt sp (x .address) (x .size) w i x) tableFull
+    released-full e = rw released-settled (settled-not sp w _ (full-without settle-fits (sym e ∙ is)))
+
+  module _ (z : ℕ) {r : Settling} (is : r ≡ ifRoom w (planWith (sp .page) (sp .end) (sp .count) i (i + 1) w (piece (x .address) z (x .status)))) where
+    pub resized-change : {plan : Plan} → r ≡ Ready plan → Carries sp w (resizedTo sp (x .address) (x .size) w (Bytes z)) plan
+    resized-change e = rw (resized-settled z) (settled-carried sp w _ (f .sound) (ready-with settle-fits _ (sym e ∙ is)))
+
+    pub resized-full : r ≡ TableFull → Refuses sp w (resizedTo sp (x .address) (x .size) w (Bytes z)) tableFull
+    resized-full e = rw (resized-settled z) (settled-not sp w _ (full-with settle-fits _ (sym e ∙ is)))
+
+  pub kept-size : (n : NewSize) (why : NotResized) → Kept why ≡ n → Refuses sp w (resizedTo sp (x .address) (x .size) w n) (notResizedNumber why)
   unfolding resizedTo
-  kept-size n why e = ap (resizedTo sp (x .address) (x .size) w) (sym e)
+  kept-size n why e = record { leads = ap (resizedTo sp (x .address) (x .size) w) e; some = not-resized-some why }
 
   -- ---- the new size, of the way that the code has matched
   pub new-size-way : (m : ℕ) {way way' : Way} → way ≡ way' → newSize sp (x .address) (x .size) way m w i x ≡ newSize sp (x .address) (x .size) way' m w i x
@@ -266,3 +302,14 @@ module _ (sp : Space) (w : List ℕ) (i : ℕ) (x : Piece) (f : FoundIn sp w i x
       go : (r : Bool) → Bytes n ≡ cond (not r) (Kept TooLittleLeft) (Bytes (x .size - m)) → x .address + n ≤ sp .limit
       go false q = let z : _≡_ {A = ℕ} 0 1 = cc in absurd (omega arith)
       go true q = let n-is : n ≡ x .size - m = cc in omega (arith, found-limit)
+
+-- ---- a decision that leads to one outcome leads to its equal
+
+pub refuses-same : {sp : Space} {w : List ℕ} {o o' : Outcome} {k : ℕ} → o ≡ o' → Refuses sp w o' k → Refuses sp w o k
+refuses-same e d = record { leads = d .leads ∙ sym e; some = d .some }
+
+pub release-same : (sp : Space) (w : List ℕ) {o o' : Outcome} (r : ReleaseDecision) → o ≡ o' → ReleaseLeads sp w o' r → ReleaseLeads sp w o r
+release-same sp w r e d = subst⁻¹ (λ (v : Outcome). ReleaseLeads sp w v r) e d
+
+pub resize-same : (sp : Space) (w : List ℕ) {o o' : Outcome} (r : ResizeDecision) → o ≡ o' → ResizeLeads sp w o' r → ResizeLeads sp w o r
+resize-same sp w r e d = subst⁻¹ (λ (v : Outcome). ResizeLeads sp w v r) e d

@@ -4,24 +4,24 @@
 --   passed                        a call that is accepted, or refused with r, was not refused by a test in front of that
 --   sound-true, is-sound-true     what is sound passes the test, and the other way round; tested as the code asks it
 --   settled-full, settled-room    the two outcomes of `settled`
---   settled-done, settled-not     the same, as `settle` says them
+--   settled-carried, settled-not  the same of what `settle` decided: a plan to be carried out, or the refusal
 --
 -- Assumes nothing.
 use Prim.Native.Nat.{ℕ, _≤_, _<_}
 use mathlib.Core.Bool.{Bool, true, false, not}
 use mathlib.Core.List.{List}
 use mathlib.Core.Path.{_≡_, refl, sym, ap, _∙_}
+use native.Mathlib.Omega.{arith}
 use lib.ListN.{length}
 use borrow.Author.Tests.{lt-ltb, le-ltb}
-use Rattle.pages.proofs.Numbers.{split, passes}
+use Rattle.change.specs.declared.plan.Plan.{Plan}
+use Rattle.pages.proofs.Numbers.{passes}
 use Rattle.pieces.specs.Words.{table}
 use Rattle.pieces.specs.declared.Piece.{Piece}
 use Rattle.refusals.specs.AnswerNumbers.{tableFull}
-use Rattle.settle.proofs.SettleLaws as settling
-use Rattle.settle.specs.Settle.{settledTable, settleSaid}
-use Rattle.settle.specs.declared.Settling.the-variants.{Done, TableFull}
-use Rattle.settle.specs.declared.Settling.{Settling}
-use Rattle.space.specs.Halves.{outcomeOf}
+use Rattle.settle.proofs.SettleLaws.{carry-fits, carried-table}
+use Rattle.settle.specs.Settle.{Settles}
+use Rattle.space.specs.Halves.{carrySaid, Carries, Refuses}
 use Rattle.space.specs.Outcomes.{SoundSpace, soundb, Outcome, refused, refusing, plain, withEnd, stateOf, settled}
 use Rattle.space.specs.declared.Space.{Space}
 use Rattle.table.proofs.Theorems.{local-form}
@@ -69,17 +69,15 @@ module _ (sp : Space) (w : List ℕ) (ps : List Piece) where
   unfolding settled
   settled-room h = refusing-no plain sp w _ tableFull _ (le-ltb (capacity (length w)) (length (fill (sp .page) ps)) h)
 
-  settled-said : (r : Settling) (v : List ℕ) → settleSaid r v ≡ settledTable (sp .page) w ps → outcomeOf sp r v ≡ settled sp w ps
-  settled-said r v e =
-      split (length (fill (sp .page) ps)) (capacity (length w))
-      (λ l. let q = e ∙ settling.settled-room (sp .page) w ps l in (λ i. outcomeOf sp (q i .answer) (q i .words)) ∙ sym (settled-room l))
-      (λ l. let q = e ∙ settling.settled-full (sp .page) w ps l in (λ i. outcomeOf sp (q i .answer) (q i .words)) ∙ sym (settled-full l))
+  pub settled-carried : {plan : Plan} → SoundSpace sp w → Settles (sp .page) (sp .count) w ps plan → Carries sp w (settled sp w ps) plan
+  settled-carried {plan} s p =
+      let room : length (fill (sp .page) ps) ≤ capacity (length w) = omega (arith, p .planned .count, p .room) in
+      record {
+        leads =
+            ap (λ (v : List ℕ). carrySaid (withEnd sp (plan .end) (plan .count)) v) (carried-table s p)
+            ∙ ((λ i. carrySaid (withEnd sp (p .planned .ends i) (p .planned .count i)) (table (length w) (fill (sp .page) ps))) ∙ sym (settled-room room));
+        fits = carry-fits s p;
+      }
 
-  pub settled-done : {r : Settling} {v : List ℕ} {e n : ℕ} {next : Space} → r ≡ Done e n → next ≡ withEnd sp e n
-      → settleSaid r v ≡ settledTable (sp .page) w ps → _≡_ {A = Outcome} (record { refusal = 0; state = next; words = v }) (settled sp w ps)
-  settled-done {r} {v} is ends h =
-      ap (λ (s : Space). record { refusal = 0; state = s; words = v }) ends ∙ (ap (λ (x : Settling). outcomeOf sp x v) (sym is) ∙ settled-said r v h)
-
-  pub settled-not : {r : Settling} {v : List ℕ} → r ≡ TableFull → settleSaid r v ≡ settledTable (sp .page) w ps
-      → refused tableFull sp v ≡ settled sp w ps
-  settled-not {r} {v} is h = ap (λ (x : Settling). outcomeOf sp x v) (sym is) ∙ settled-said r v h
+  pub settled-not : capacity (length w) < length (fill (sp .page) ps) → Refuses sp w (settled sp w ps) tableFull
+  settled-not l = record { leads = sym (settled-full l); some = λ e. omega (arith, e) }

@@ -3,17 +3,20 @@
 --   beyond-end, beyond-not         whether the place is beyond the limit
 --   place-grow, place-settle       what the limit's test and a change ask
 --   Stands, stands, stands-at      the piece stands before the place's entry, and ends within the limit
---   placed-beyond, placed-settled  what is placed; placed-done, placed-full an outcome with its address
+--   placed-beyond, placed-change, placed-full     what is decided on the place
 --   place-fits                     the place that is chosen in a sound table
 --   allocated-unsound, -unknown, -zero, -placed     a request
+--   allocate-same, -fits, -done, -not      what was decided on it, and done
 --
 -- Assumes nothing.
 use Prim.Native.Nat.{ℕ, _+_, _≤_, _<_}
 use mathlib.Core.Bool.{true, false, not}
 use mathlib.Core.List.{List, [], _∷_}
-use mathlib.Core.Path.{_≡_, refl, sym, ap, _∙_}
+use mathlib.Core.Path.{_≡_, refl, sym, ap, _∙_, subst, subst⁻¹}
 use native.Mathlib.Omega.{arith}
 use borrow.Author.Tests.{eq-eqb, ne-eqb}
+use Rattle.change.specs.Change.{planWith}
+use Rattle.change.specs.declared.plan.Plan.{Plan}
 use Rattle.choose.proofs.LiesLaws.{PlaceIn, section-in, page-in}
 use Rattle.choose.specs.Place.{placeFor, atEndb, placeAddress, placeEntry}
 use Rattle.choose.specs.declared.place.Place.the-variants.{Section, Page, End}
@@ -24,19 +27,26 @@ use Rattle.pieces.specs.Pieces.{piece, behind}
 use Rattle.pieces.specs.declared.Class.{Class}
 use Rattle.pieces.specs.declared.Piece.{Piece}
 use Rattle.pieces.specs.declared.Status.the-variants.{Live}
-use Rattle.refusals.specs.AnswerNumbers.{notSound, unknownCode, zeroAsked, beyondLimit, tableFull}
+use Rattle.refusals.specs.AnswerNumbers.{notSound, unknownCode, zeroAsked, beyondLimit, tableFull, noAddress, allocateNumber, addressOf}
+use Rattle.refusals.specs.declared.AllocateAnswer.{AllocateAnswer}
+use Rattle.refusals.specs.declared.AllocateAnswer.the-variants as allocate
 use Rattle.requests.proofs.RequestLaws.{class-small}
 use Rattle.requests.specs.Requests.{typeb, classFor}
 use Rattle.room.proofs.RoomLaws.{limit-kept}
 use Rattle.room.specs.Room.{passesb, GrowFits}
 use Rattle.rules.proofs.InsertLaws.{insert-within, insert-last}
 use Rattle.rules.specs.Editing.{insert}
-use Rattle.settle.specs.Settle.{SettleFits}
-use Rattle.space.proofs.OutcomeLaws.{refusing-yes, refusing-no, sound-true}
-use Rattle.space.specs.Halves.{PlaceFits, livesAround}
+use Rattle.settle.proofs.SettleLaws.{ready-with, full-with}
+use Rattle.settle.specs.Settle.{ifRoom, SettleFits, CarryFits}
+use Rattle.settle.specs.declared.Settling.the-variants.{Ready, TableFull}
+use Rattle.settle.specs.declared.Settling.{Settling}
+use Rattle.space.proofs.OutcomeLaws.{refusing-yes, refusing-no, sound-true, settled-carried, settled-not}
+use Rattle.space.specs.Halves.{PlaceFits, livesAround, carrySaid, carried, Carries, Refuses, AllocateLeads}
 use Rattle.space.specs.Outcomes.{SoundSpace, soundb, entriesOf, livesOf, Outcome, refused, settled}
 use Rattle.space.specs.Placing.{beyondb, Placed, unplaced, placedAt, placed, allocated}
 use Rattle.space.specs.declared.Space.{Space}
+use Rattle.space.specs.declared.place.AllocateDecision.{AllocateDecision}
+use Rattle.space.specs.declared.place.AllocateDecision.the-variants.{Change, Refused}
 use Rattle.table.proofs.TilingLaws.{ends-below}
 
 -- ---- the limit
@@ -47,6 +57,44 @@ module _ (sp : Space) (s : ℕ) (q : Place) where
 
   pub beyond-not : atEndb q ≡ false → beyondb sp s q ≡ false
   beyond-not e = rw e
+
+-- ---- decisions
+
+-- an outcome with its address
+module _ {sp : Space} {w : List ℕ} {o : Outcome} (b : ℕ) where
+  placed-carried : {plan : Plan} → Carries sp w o plan → AllocateLeads sp w (placedAt b o) (Change b plan)
+  unfolding placedAt
+  placed-carried c = (ap (λ (v : Outcome). placedAt b v .address) (c .leads), c)
+
+  placed-not : Refuses sp w o tableFull → AllocateLeads sp w (placedAt b o) (Refused allocate.TableFull)
+  unfolding placedAt
+  placed-not c = (ap (λ (v : Outcome). placedAt b v .address) (c .leads), c)
+
+-- a refusal has no address
+pub refusal-leads : (sp : Space) (w : List ℕ) {o : Placed} {k : ℕ} → o ≡ unplaced (refused k sp w) → (k ≡ 0 → ⊥)
+    → (noAddress ≡ o .address) × Refuses sp w (o .outcome) k
+refusal-leads sp w e n = (ap (λ (v : Placed). v .address) (sym e), record { leads = ap (λ (v : Placed). v .outcome) (sym e); some = n })
+
+pub allocate-same : (sp : Space) (w : List ℕ) {o o' : Placed} (r : AllocateDecision) → o ≡ o' → AllocateLeads sp w o' r → AllocateLeads sp w o r
+allocate-same sp w r e d = subst⁻¹ (λ (v : Placed). AllocateLeads sp w v r) e d
+
+-- what was decided is done
+module _ (sp : Space) (w : List ℕ) (o : Placed) (r : AllocateDecision) (l : AllocateLeads sp w o r) where
+  change-of : {b : ℕ} {plan : Plan} → r ≡ Change b plan → AllocateLeads sp w o (Change b plan)
+  change-of e = subst (AllocateLeads sp w o) e l
+
+  pub allocate-fits : {b : ℕ} {plan : Plan} → r ≡ Change b plan → CarryFits (sp .count) w plan
+  allocate-fits e = change-of e .1 .fits
+
+  pub allocate-done : {b : ℕ} {plan : Plan} {next : Space} {v : List ℕ} → r ≡ Change b plan → carrySaid next v ≡ carried sp w plan
+      → _≡_ {A = Placed} (record { address = b; outcome = carrySaid next v }) o
+  allocate-done e q = let c = change-of e in (λ i. record { address = c .0 i; outcome = (q ∙ c .1 .leads) i })
+
+  pub allocate-not : {answer : AllocateAnswer} → r ≡ Refused answer
+      → _≡_ {A = Placed} (record { address = addressOf answer; outcome = refused (allocateNumber answer) sp w }) o
+  allocate-not {answer} e =
+      let c : AllocateLeads sp w o (Refused answer) = subst (AllocateLeads sp w o) e l in
+      (λ i. record { address = c .0 i; outcome = c .1 .leads i })
 
 -- ---- the chosen place
 
@@ -98,29 +146,25 @@ module _ (sp : Space) (k : Class) (s : ℕ) (w : List ℕ) (q : Place) (h : Plac
     pub place-settle : SettleFits (sp .page) (sp .end) (sp .count) i i w
     place-settle = record { limit = sp .limit; sound = h .sound; low = omega arith; high = stands-at .entry }
 
-    pub placed-settled : placed sp k s w q ≡ placedAt b (settled sp w (livesAround sp w i i (piece b s (Live k) ∷ [])))
+    placed-settled : placed sp k s w q ≡ placedAt b (settled sp w (livesAround sp w i i (piece b s (Live k) ∷ [])))
     unfolding placed
     placed-settled =
         refusing-no unplaced sp w _ beyondLimit _ e
         ∙ (ap (λ (v : ℕ). placedAt v (settled sp w (insert (piece v s (Live k)) (livesOf sp w)))) (sym b-is)
         ∙ ap (λ (ps : List Piece). placedAt b (settled sp w ps)) (stands-at .lives))
 
-  -- ---- what is placed
+    -- r is what `settle` decided
+    module _ {r : Settling} (is : r ≡ ifRoom w (planWith (sp .page) (sp .end) (sp .count) i i w (piece b s (Live k)))) where
+      pub placed-change : {plan : Plan} → r ≡ Ready plan → AllocateLeads sp w (placed sp k s w q) (Change b plan)
+      placed-change r-is =
+          rw placed-settled (placed-carried b (settled-carried sp w _ (h .sound) (ready-with place-settle _ (sym r-is ∙ is))))
 
-  pub placed-beyond : beyondb sp s q ≡ true → placed sp k s w q ≡ unplaced (refused beyondLimit sp w)
+      pub placed-full : r ≡ TableFull → AllocateLeads sp w (placed sp k s w q) (Refused allocate.TableFull)
+      placed-full r-is = rw placed-settled (placed-not b (settled-not sp w _ (full-with place-settle _ (sym r-is ∙ is))))
+
+  pub placed-beyond : beyondb sp s q ≡ true → AllocateLeads sp w (placed sp k s w q) (Refused allocate.BeyondLimit)
   unfolding placed
-  placed-beyond e = refusing-yes unplaced sp w _ beyondLimit _ e
-
--- an outcome with its address
-pub placed-done : (b : ℕ) {o : Outcome} {next : Space} {v : List ℕ} → _≡_ {A = Outcome} (record { refusal = 0; state = next; words = v }) o
-    → _≡_ {A = Placed} (record { address = b; outcome = record { refusal = 0; state = next; words = v } }) (placedAt b o)
-unfolding placedAt
-placed-done b e = ap (placedAt b) e
-
-pub placed-full : (b : ℕ) (sp : Space) (v : List ℕ) {o : Outcome} → refused tableFull sp v ≡ o
-    → unplaced (refused tableFull sp v) ≡ placedAt b o
-unfolding placedAt
-placed-full b sp v e = ap (placedAt b) e
+  placed-beyond e = refusal-leads sp w (refusing-yes unplaced sp w _ beyondLimit _ e) (λ z. omega (arith, z))
 
 -- ---- a request
 
@@ -133,15 +177,18 @@ module _ (sp : Space) (t s : ℕ) (w : List ℕ) where
     checked : not (soundb sp w) ≡ false
     checked = ap not (sound-true sp w sound)
 
-    pub allocated-unknown : typeb t ≡ false → allocated sp t s w ≡ unplaced (refused unknownCode sp w)
+    pub allocated-unknown : typeb t ≡ false → AllocateLeads sp w (allocated sp t s w) (Refused allocate.UnknownType)
     unfolding allocated
-    allocated-unknown f = refusing-no unplaced sp w _ notSound _ checked ∙ refusing-yes unplaced sp w _ unknownCode _ (ap not f)
+    allocated-unknown f =
+        refusal-leads sp w (refusing-no unplaced sp w _ notSound _ checked ∙ refusing-yes unplaced sp w _ unknownCode _ (ap not f))
+        (λ z. omega (arith, z))
 
-    pub allocated-zero : typeb t ≡ true → s ≡ 0 → allocated sp t s w ≡ unplaced (refused zeroAsked sp w)
+    pub allocated-zero : typeb t ≡ true → s ≡ 0 → AllocateLeads sp w (allocated sp t s w) (Refused allocate.NoBytes)
     unfolding allocated
     allocated-zero f g =
-        refusing-no unplaced sp w _ notSound _ checked
-        ∙ (refusing-no unplaced sp w _ unknownCode _ (ap not f) ∙ refusing-yes unplaced sp w _ zeroAsked _ (eq-eqb s 0 g))
+        refusal-leads sp w (refusing-no unplaced sp w _ notSound _ checked
+        ∙ (refusing-no unplaced sp w _ unknownCode _ (ap not f) ∙ refusing-yes unplaced sp w _ zeroAsked _ (eq-eqb s 0 g)))
+        (λ z. omega (arith, z))
 
     pub allocated-placed : typeb t ≡ true → (s ≡ 0 → ⊥) → (k : Class) (q : Place) → k ≡ classFor (sp .page) t s
         → q ≡ placeFor (sp .page) k s (entriesOf sp w) → allocated sp t s w ≡ placed sp k s w q

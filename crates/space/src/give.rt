@@ -2,7 +2,7 @@
 ghost use mathlib.Core.Path.{_≡_};
 ghost use Prim.Native.Nat.{_+_, _≤_};
 ghost use Rattle.space.specs.Giving.{whyNot, namedIn, releasedAt, released, newSize, resizedTo, resizedAt, resized, extended, shortened};
-ghost use Rattle.space.specs.Halves.{FoundIn};
+ghost use Rattle.space.specs.Halves.{FoundIn, ReleaseLeads, ResizeLeads};
 ghost use Rattle.space.specs.Outcomes.{SoundSpace};
 ghost use Rattle.space.specs.Said.{releaseSaid, resizeSaid, extendSaid, shortenSaid};
 ghost use Rattle.space.specs.declared.give.NewSize.the-variants.{Bytes};
@@ -13,6 +13,7 @@ use crate::answers::ReleaseAnswer;
 use crate::answers::Released;
 use crate::answers::ResizeAnswer;
 use crate::answers::Resized;
+use change::plan::Plan;
 use find::Found;
 use pieces::Piece;
 use settle::Settling;
@@ -47,6 +48,18 @@ pub enum NewSize {
     Kept(NotResized),
 }
 
+// What is decided on a release: the change, or the refusal.
+pub enum ReleaseDecision {
+    Change(Plan),
+    Refused(ReleaseAnswer),
+}
+
+// So on an extend or a shorten.
+pub enum ResizeDecision {
+    Change(Plan),
+    Refused(ResizeAnswer),
+}
+
 impl Space {
     // The front of the three calls, on a sound table: the live piece that is named, or the refusal. `zero` says that a size or change is 0,
     // where the call has that refusal.
@@ -75,37 +88,37 @@ impl Space {
                 answer: ReleaseAnswer::NotSound,
             };
         }
-        self.release_sound(table, address, size)
+        match self.decide_release(table, address, size) {
+            ReleaseDecision::Change(plan) => Released {
+                space: self.carry_out(table, plan),
+                answer: ReleaseAnswer::Done,
+            },
+            ReleaseDecision::Refused(answer) => Released {
+                space: self,
+                answer,
+            },
+        }
     }
 
-    pub fn release_sound(self, table: &mut [u64], address: u64, size: u64) -> Released
+    pub fn decide_release(self, table: &[u64], address: u64, size: u64) -> ReleaseDecision
         requires { ⌜ SoundSpace self (now table) ⌝ }
-        ensures { λ r. ⌜ releaseSaid r (now (table .exit)) ≡ released self address size (now (table .entry)) ⌝ }
+        ensures { λ r. ⌜ ReleaseLeads self (now (table .entry)) (released self address size (now (table .entry))) r ⌝ }
     {
         let named = self.named(table, false, address, size);
         let Named::At(i, piece) = named else {
-            return Released {
-                space: self,
-                answer: ReleaseAnswer::NotNamed(named.why()),
-            };
+            return ReleaseDecision::Refused(ReleaseAnswer::NotNamed(named.why()));
         };
         self.release_found(table, i, piece)
     }
 
-    fn release_found(self, table: &mut [u64], i: usize, piece: Piece) -> Released
+    fn release_found(self, table: &[u64], i: usize, piece: Piece) -> ReleaseDecision
         requires { ⌜ FoundIn self (now table) i piece ⌝ }
-        ensures { λ r. ⌜ releaseSaid r (now (table .exit)) ≡ releasedAt self (piece .address) (piece .size) (now (table .entry)) i piece ⌝ }
+        ensures { λ r. ⌜ ReleaseLeads self (now (table .entry)) (releasedAt self (piece .address) (piece .size) (now (table .entry)) i piece) r ⌝ }
     {
         let n = self.count as usize;
         match settle::without(self.page, self.end, n, i, i + 1, table) {
-            Settling::Done(end, count) => Released {
-                space: self.ending(end, count),
-                answer: ReleaseAnswer::Done,
-            },
-            Settling::TableFull => Released {
-                space: self,
-                answer: ReleaseAnswer::TableFull,
-            },
+            Settling::Ready(plan) => ReleaseDecision::Change(plan),
+            Settling::TableFull => ReleaseDecision::Refused(ReleaseAnswer::TableFull),
         }
     }
 
@@ -132,46 +145,56 @@ impl Space {
                 answer: ResizeAnswer::NotSound,
             };
         }
-        self.resize_sound(table, address, size, way, by)
-    }
-
-    pub fn resize_sound(
-        self,
-        table: &mut [u64],
-        address: u64,
-        size: u64,
-        way: Way,
-        by: u64,
-    ) -> Resized
-        requires { ⌜ SoundSpace self (now table) ⌝ }
-        ensures { λ r. ⌜ resizeSaid r (now (table .exit)) ≡ resized self address size way by (now (table .entry)) ⌝ }
-    {
-        let zero = requests::is_zero(size, by);
-        let named = self.named(table, zero, address, size);
-        let Named::At(i, piece) = named else {
-            return Resized {
+        match self.decide_resize(table, address, size, way, by) {
+            ResizeDecision::Change(plan) => Resized {
+                space: self.carry_out(table, plan),
+                answer: ResizeAnswer::Done,
+            },
+            ResizeDecision::Refused(answer) => Resized {
                 space: self,
-                answer: ResizeAnswer::NotNamed(named.why()),
-            };
-        };
-        self.resize_found(table, i, piece, way, by)
-    }
-
-    // The found piece becomes so many bytes longer or shorter.
-    fn resize_found(self, table: &mut [u64], i: usize, piece: Piece, way: Way, by: u64) -> Resized
-        requires { ⌜ FoundIn self (now table) i piece ⌝ }
-        ensures { λ r. ⌜ resizeSaid r (now (table .exit)) ≡ resizedAt self (piece .address) (piece .size) way by (now (table .entry)) i piece ⌝ }
-    {
-        match self.new_size(table, i, piece, way, by) {
-            NewSize::Bytes(size) => self.resize_to(table, i, piece, size),
-            NewSize::Kept(why) => Resized {
-                space: self,
-                answer: ResizeAnswer::NotResized(why),
+                answer,
             },
         }
     }
 
-    // Decides, and changes nothing: the piece's new size, or why it keeps its own.
+    pub fn decide_resize(
+        self,
+        table: &[u64],
+        address: u64,
+        size: u64,
+        way: Way,
+        by: u64,
+    ) -> ResizeDecision
+        requires { ⌜ SoundSpace self (now table) ⌝ }
+        ensures { λ r. ⌜ ResizeLeads self (now (table .entry)) (resized self address size way by (now (table .entry))) r ⌝ }
+    {
+        let zero = requests::is_zero(size, by);
+        let named = self.named(table, zero, address, size);
+        let Named::At(i, piece) = named else {
+            return ResizeDecision::Refused(ResizeAnswer::NotNamed(named.why()));
+        };
+        self.resize_found(table, i, piece, way, by)
+    }
+
+    // The found piece is to become so many bytes longer or shorter.
+    fn resize_found(
+        self,
+        table: &[u64],
+        i: usize,
+        piece: Piece,
+        way: Way,
+        by: u64,
+    ) -> ResizeDecision
+        requires { ⌜ FoundIn self (now table) i piece ⌝ }
+        ensures { λ r. ⌜ ResizeLeads self (now (table .entry)) (resizedAt self (piece .address) (piece .size) way by (now (table .entry)) i piece) r ⌝ }
+    {
+        match self.new_size(table, i, piece, way, by) {
+            NewSize::Bytes(size) => self.resize_to(table, i, piece, size),
+            NewSize::Kept(why) => ResizeDecision::Refused(ResizeAnswer::NotResized(why)),
+        }
+    }
+
+    // The piece's new size, or why it keeps its own.
     fn new_size(self, table: &[u64], i: usize, piece: Piece, way: Way, by: u64) -> NewSize
         requires { ⌜ FoundIn self (now table) i piece ⌝ }
         ensures { λ r. ⌜ r ≡ newSize self (piece .address) (piece .size) way by (now (table .entry)) i piece ⌝ }
@@ -199,10 +222,10 @@ impl Space {
         }
     }
 
-    // The found piece gets so many bytes, or the table is full.
-    fn resize_to(self, table: &mut [u64], i: usize, piece: Piece, size: u64) -> Resized
+    // The found piece is to get so many bytes, or the table is full.
+    fn resize_to(self, table: &[u64], i: usize, piece: Piece, size: u64) -> ResizeDecision
         requires { ⌜ FoundIn self (now table) i piece × (piece .address + size ≤ self .limit) ⌝ }
-        ensures { λ r. ⌜ resizeSaid r (now (table .exit)) ≡ resizedTo self (piece .address) (piece .size) (now (table .entry)) (Bytes size) ⌝ }
+        ensures { λ r. ⌜ ResizeLeads self (now (table .entry)) (resizedTo self (piece .address) (piece .size) (now (table .entry)) (Bytes size)) r ⌝ }
     {
         let n = self.count as usize;
         let status = piece.status;
@@ -212,14 +235,8 @@ impl Space {
             status,
         };
         match settle::with(self.page, self.end, n, i, i + 1, resized, table) {
-            Settling::Done(end, count) => Resized {
-                space: self.ending(end, count),
-                answer: ResizeAnswer::Done,
-            },
-            Settling::TableFull => Resized {
-                space: self,
-                answer: ResizeAnswer::TableFull,
-            },
+            Settling::Ready(plan) => ResizeDecision::Change(plan),
+            Settling::TableFull => ResizeDecision::Refused(ResizeAnswer::TableFull),
         }
     }
 }

@@ -1,8 +1,9 @@
 // The file space manager's calls. The state goes in by value and comes back with the answer; the table is lent. No call asks anything of its
 // caller: any four numbers, any slice and any arguments get an answer. A refused call hands the state back as it came and writes no word.
 //
-// Each call on a space is the soundness test and then its half that asks for a sound table, as `allocate` and `allocate_sound`: code that has
-// tested a table once calls the halves.
+// Each call that changes a table is the soundness test; then a half that decides and writes nothing, as `decide_allocate`, and hands back the plan of
+// the change or the refusal; and then, of a plan, `carry_out`. Code that has tested a table once, or looks at the entries that a change replaces
+// before it is written, calls the halves.
 pub mod answers;
 pub mod give;
 pub mod list;
@@ -10,7 +11,10 @@ pub mod open;
 pub mod place;
 
 ghost use mathlib.Core.Path.{_≡_};
-ghost use Rattle.space.specs.Outcomes.{soundb, withEnd};
+ghost use Rattle.settle.specs.Settle.{CarryFits};
+ghost use Rattle.space.specs.Halves.{carrySaid, carried};
+ghost use Rattle.space.specs.Outcomes.{soundb};
+use change::plan::Plan;
 
 // The state: page size, address limit, end of the allocated file, count of entries.
 pub struct Space {
@@ -28,15 +32,18 @@ impl Space {
         sound::is_sound(self.page, self.limit, self.end, self.count, table)
     }
 
-    // The same page size and limit with another end and count.
-    fn ending(self, end: u64, count: u64) -> Space
-        ensures { λ r. ⌜ r ≡ withEnd self end count ⌝ }
+    // The change that was decided on is written: every word of the table, and the state with the new end and count.
+    pub fn carry_out(self, table: &mut [u64], plan: Plan) -> Space
+        requires { ⌜ CarryFits (self .count) (now table) plan ⌝ }
+        ensures { λ r. ⌜ carrySaid r (now (table .exit)) ≡ carried self (now (table .entry)) plan ⌝ }
     {
+        let n = self.count as usize;
+        settle::carry_out(n, table, plan);
         Space {
             page: self.page,
             limit: self.limit,
-            end,
-            count,
+            end: plan.end,
+            count: plan.count as u64,
         }
     }
 }
