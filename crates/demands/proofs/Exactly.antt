@@ -272,7 +272,7 @@ calls-row (shortens a z k) sp w = shortened-row sp w a z k
 
 -- ---- a row allows one number
 
-same : {r r' k : ℕ} {W R R' : Type 0} → (R → R' → r ≡ r') → Given r k W R → Given r' k W R' → r ≡ r'
+pub same : {r r' k : ℕ} {W R R' : Type 0} → (R → R' → r ≡ r') → Given r k W R → Given r' k W R' → r ≡ r'
 same f (given h e) (given g d) = e ∙ sym d
 same f (given h e) (passed-on g d) = absurd (g h)
 same f (passed-on h e) (given g d) = absurd (h g)

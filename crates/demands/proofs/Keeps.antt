@@ -1,6 +1,7 @@
 -- Demand 2: state and table stay sound together.
 --
 --   changed          an accepted call leaves what its edited live pieces determine
+--   handed-back      a refused call that takes a state hands that back
 --   keeps, runs      the statements
 --
 -- Assumes nothing.
@@ -34,7 +35,7 @@ changed sp w (releasing {a = a} {z = z}) s e = released-changed sp w s a z e
 changed sp w (extending {a = a} {z = z} {m = m}) s e = resized-changed sp w s a z Longer m e
 changed sp w (shortening {a = a} {z = z} {k = k}) s e = resized-changed sp w s a z Shorter k e
 
-handed-back : {c : Call} (sp : Space) → OnSpace c → handedBack c sp ≡ sp
+pub handed-back : {c : Call} (sp : Space) → OnSpace c → handedBack c sp ≡ sp
 handed-back sp allocating = refl
 handed-back sp releasing = refl
 handed-back sp extending = refl

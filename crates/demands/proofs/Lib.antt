@@ -11,4 +11,3 @@ pub mod Listings
 pub mod AnyOrder
 pub mod Run
 pub mod OneResult
-pub mod Signed

@@ -117,22 +117,22 @@ list-back listing.SliceTooShort = refl
 abbrev wordsOf : Outcome → List ℕ
 wordsOf o = o .words
 
-open-unique : (o : Outcome) → Unique openSaid o
+pub open-unique : (o : Outcome) → Unique openSaid o
 open-unique =
     unique openSaid (λ o. record { space = o .state; answer = openOf (o .refusal) }) wordsOf
     (λ r v i. record { space = r .space; answer = open-back (r .answer) i }) (λ r v. refl)
 
-allocate-unique : (o : Placed) → Unique allocateSaid o
+pub allocate-unique : (o : Placed) → Unique allocateSaid o
 allocate-unique =
     unique allocateSaid (λ o. record { space = o .outcome .state; answer = allocateOf (o .outcome .refusal) (o .address) }) (λ o. o .outcome .words)
     (λ r v i. record { space = r .space; answer = allocate-back (r .answer) i }) (λ r v. refl)
 
-release-unique : (o : Outcome) → Unique releaseSaid o
+pub release-unique : (o : Outcome) → Unique releaseSaid o
 release-unique =
     unique releaseSaid (λ o. record { space = o .state; answer = releaseOf (o .refusal) }) wordsOf
     (λ r v i. record { space = r .space; answer = release-back (r .answer) i }) (λ r v. refl)
 
-resize-unique : (o : Outcome) → Unique resizeSaid o
+pub resize-unique : (o : Outcome) → Unique resizeSaid o
 resize-unique =
     unique resizeSaid (λ o. record { space = o .state; answer = resizeOf (o .refusal) }) wordsOf
     (λ r v i. record { space = r .space; answer = resize-back (r .answer) i }) (λ r v. refl)

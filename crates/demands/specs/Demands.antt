@@ -1,5 +1,5 @@
 -- What the customer signs on of the calls on a space. Statements alone: each is proved in proofs/, under its name in small letters, and is a field
--- of the one record that is signed, Signed.antt.
+-- of the one record that is signed (signed/specs/Signed.antt).
 --
 --   Refusals        demand 1: each call is accepted, or refused with a number of its row, the state as given and every word as it came
 --   Keeps           demand 2: after every call state and table are sound together, with P and M unchanged

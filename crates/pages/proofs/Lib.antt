@@ -1,3 +1,4 @@
 -- The laws that the proofs of this and of the higher crates cite.
 pub mod Numbers
+pub mod SameLaws
 pub mod PageLaws

@@ -1,15 +1,18 @@
--- Laws of the test on kind words: what `kind` computes from the word, free and of a class, is what `statusOf` says of it.
+-- Laws of the tests on kind words: what `kind` computes from the word is what `statusOf` says of it.
+--
+-- In this order: free and of a class, of any word; free, and its manager, of a kind.
 --
 -- Assumes nothing.
-use Prim.Native.Nat.{ℕ}
+use Prim.Native.Nat.{ℕ, _-_, _≤_}
 use mathlib.Core.Bool.{Bool, true, false, not}
 use mathlib.Core.Path.{_≡_, refl, sym, ap, _∙_}
-use lib.Dec.{eqb}
+use native.Mathlib.Omega.{arith}
+use lib.Dec.{eqb, ltb}
 use borrow.Author.Tests.{ne-eqb}
 use Rattle.pages.proofs.Numbers.{not-both}
 use Rattle.pieces.proofs.PieceLaws.{same-class, class-same, kind-true, status-kind, kind-status}
-use Rattle.pieces.specs.Pieces.{sameClass, freeOf, Small, metadata, raw, kindOf, kindb, statusOf}
-use Rattle.pieces.specs.declared.Class.the-variants.{Large}
+use Rattle.pieces.specs.Pieces.{classOf, sameClass, freeb, freeOf, managerOf, Small, metadata, raw, kindOf, Kind, kindb, statusOf}
+use Rattle.pieces.specs.declared.Class.the-variants.{SmallMetadata, SmallRaw, Large}
 use Rattle.pieces.specs.declared.Class.{Class}
 use Rattle.pieces.specs.declared.Status.the-variants.{Live, Free}
 use Rattle.pieces.specs.declared.Status.{Status}
@@ -54,3 +57,26 @@ free-of-large k n = go (kindb k) refl
     go : (b : Bool) → kindb k ≡ b → freeOf Large (statusOf k) ≡ not b
     go true e = free-of-other k Large e n
     go false e = rw (no-kind-status k e)
+
+-- ---- of a kind
+
+free-above : (s : Status) → freeb s ≡ ltb (kindOf (Live Large)) (kindOf s)
+free-above (Live SmallMetadata) = refl
+free-above (Live SmallRaw) = refl
+free-above (Live Large) = refl
+free-above (Free SmallMetadata) = refl
+free-above (Free SmallRaw) = refl
+free-above (Free Large) = refl
+
+pub free-kind : (k : ℕ) → Kind k → freeb (statusOf k) ≡ ltb (kindOf (Live Large)) k
+free-kind k h = rw (kind-status k h) at (free-above (statusOf k))
+
+manager-above : (s : Status) → freeb s ≡ true → (kindOf (Free SmallMetadata) ≤ kindOf s) × (managerOf (classOf s) ≡ kindOf s - kindOf (Free SmallMetadata))
+manager-above (Live c) h = absurd (not-both h refl)
+manager-above (Free SmallMetadata) h = (omega arith, refl)
+manager-above (Free SmallRaw) h = (omega arith, refl)
+manager-above (Free Large) h = (omega arith, refl)
+
+pub manager-kind : (k : ℕ) → Kind k → freeb (statusOf k) ≡ true
+    → (kindOf (Free SmallMetadata) ≤ k) × (managerOf (classOf (statusOf k)) ≡ k - kindOf (Free SmallMetadata))
+manager-kind k h f = rw (kind-status k h) at (manager-above (statusOf k) f)

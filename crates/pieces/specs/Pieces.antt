@@ -8,6 +8,7 @@
 --   sameClass c d      the test whether c and d are one class
 --   largeFreeb s       the test whether s is free large
 --   freeOf c s         the test whether s is free, and of class c
+--   managerOf c        the manager of the free entries of class c, counted from 0
 --   kindOf s           the kind of a status, 1 to 6
 --   Kind k             k is a kind; kindb k is the test
 --   statusOf k         the status of a kind; a word that is no kind, which no sound table has, reads as 6
@@ -68,6 +69,11 @@ largeFreeb (Free c) = not (smallb c)
 abbrev pub freeOf : Class → Status → Bool
 freeOf k (Live c) = false
 freeOf k (Free c) = sameClass c k
+
+abbrev pub managerOf : Class → ℕ
+managerOf SmallMetadata = 0
+managerOf SmallRaw = 1
+managerOf Large = 2
 
 abbrev pub kindOf : Status → ℕ
 kindOf (Live SmallMetadata) = 1

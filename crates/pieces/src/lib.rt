@@ -44,6 +44,8 @@ const KIND_WORD: usize = 2;
 
 pub const LIVE_LARGE: u64 = 3;
 
+const FREE_METADATA: u64 = 4;
+
 pub const FREE_LARGE: u64 = 6;
 
 const LEAST_KIND: u64 = 1;
@@ -104,7 +106,7 @@ pub fn kind_of(status: Status) -> u64
             Class::Large => LIVE_LARGE,
         },
         Status::Free(c) => match c {
-            Class::SmallMetadata => 4,
+            Class::SmallMetadata => FREE_METADATA,
             Class::SmallRaw => 5,
             Class::Large => FREE_LARGE,
         },

@@ -1,21 +1,19 @@
--- Laws of runs of bytes, counted words and equal texts, in the order of specs/Line.antt: each is one step of a walk over a list, or its end.
+-- Laws of runs of bytes and counted words, in the order of specs/Line.antt: each is one step of a walk over a list, or its end.
 --
 --   Runs p xs from i   a walk over the run of such bytes that starts at `from` has come to i
 --
--- Then what `every` says of one element, and that `sameb` tells equality.
+-- Then what `every` says of one element.
 -- Not here: laws of `drop` and `getD` (lib.Seq), of `&&` (pages/proofs/Numbers.antt). Assumes nothing.
 use Prim.Native.Nat.{ℕ, zero, suc, _+_, _<_, _≤_}
-use mathlib.Core.Bool.{Bool, true, false, true≢false}
+use mathlib.Core.Bool.{Bool, true, false}
 use mathlib.Core.List.{List, [], _∷_}
-use mathlib.Core.Path.{_≡_, refl, sym, ap}
+use mathlib.Core.Path.{_≡_, refl}
 use native.Mathlib.Numerals.{add-one}
 use native.Mathlib.Omega.{arith}
-use lib.Dec.{eqb}
 use lib.ListN.{length, drop, getD, drop-of-length-le}
 use lib.Seq.{drop-cons}
-use borrow.Author.Tests.{eq-eqb, eqb-true}
-use Rattle.pages.proofs.Numbers.{and-left, and-right, and-false}
-use Rattle.script.specs.Line.{run, every, blankb, Ends, starts, wordsIn, sameb, Same}
+use Rattle.pages.proofs.Numbers.{and-left, and-right}
+use Rattle.script.specs.Line.{run, every, blankb, Ends, starts, wordsIn}
 
 -- ---- runs
 
@@ -79,28 +77,6 @@ starts-le was true = omega arith
 starts-le true false = omega arith
 starts-le false false = omega arith
 
--- ---- texts
-
-pub same-next : (xs ys : List ℕ) (i : ℕ) → i < length xs → i < length ys → getD xs i 0 ≡ getD ys i 0
-    → sameb (drop i xs) (drop i ys) ≡ sameb (drop (i + 1) xs) (drop (i + 1) ys)
-unfolding sameb
-same-next xs ys i h k e = rw (add-one, drop-cons xs i 0 h, drop-cons ys i 0 k, eq-eqb _ _ e)
-
-pub same-stop : (xs ys : List ℕ) (i : ℕ) → i < length xs → i < length ys → eqb (getD xs i 0) (getD ys i 0) ≡ false → sameb (drop i xs) (drop i ys) ≡ false
-unfolding sameb
-same-stop xs ys i h k e = rw (drop-cons xs i 0 h, drop-cons ys i 0 k, e)
-
-pub same-end : (xs ys : List ℕ) (i : ℕ) → length xs ≤ i → length ys ≤ i → sameb (drop i xs) (drop i ys) ≡ true
-unfolding sameb
-same-end xs ys i h k = rw (drop-of-length-le xs h, drop-of-length-le ys k)
-
-pub same-lengths : (xs ys : List ℕ) → (length xs ≡ length ys → ⊥) → sameb xs ys ≡ false
-unfolding sameb
-same-lengths [] [] h = absurd (h refl)
-same-lengths [] (y ∷ ys) h = refl
-same-lengths (x ∷ xs) [] h = refl
-same-lengths (x ∷ xs) (y ∷ ys) h = and-false (eqb x y) (same-lengths xs ys (λ e. h (ap suc e)))
-
 -- ---- one of all
 
 pub every-at : (p : ℕ → Bool) (xs : List ℕ) (i : ℕ) → every p xs ≡ true → i < length xs → p (getD xs i 0) ≡ true
@@ -108,23 +84,3 @@ unfolding every
 every-at p [] i e h = absurd (omega arith)
 every-at p (x ∷ xs) zero e h = and-left (p x) (every p xs) e
 every-at p (x ∷ xs) (suc i) e h = every-at p xs i (and-right (p x) (every p xs) e) (omega arith)
-
--- ---- equal texts
-
-same-equal : (xs ys : List ℕ) → sameb xs ys ≡ true → xs ≡ ys
-unfolding sameb
-same-equal [] [] h = refl
-same-equal [] (y ∷ ys) h = absurd (true≢false (sym h))
-same-equal (x ∷ xs) [] h = absurd (true≢false (sym h))
-same-equal (x ∷ xs) (y ∷ ys) h =
-    let head : x ≡ y = eqb-true x y (and-left (eqb x y) (sameb xs ys) h) in
-    let tail : xs ≡ ys = same-equal xs ys (and-right (eqb x y) (sameb xs ys) h) in
-    cc
-
-same-self : (xs : List ℕ) → sameb xs xs ≡ true
-unfolding sameb
-same-self [] = refl
-same-self (x ∷ xs) = rw (eq-eqb x x refl) (same-self xs)
-
-pub same : Same
-same xs ys = (same-equal xs ys, λ e. rw (← e) (same-self xs))

@@ -11,13 +11,10 @@
 --   WordAt xs from w   w is the first word of xs from `from` on, of no bytes where there is none
 --   starts was is      1 where a word starts: at a letter behind a blank (was: a blank came before, is: this is one)
 --   wordsIn was xs     how many words start in xs
---   sameb xs ys        whether two texts are the same
---   Same               it is true exactly of equal texts
 --
--- Assumes nothing. Laws, and the proof of Same, are in proofs/LineLaws.antt.
+-- Assumes nothing. Laws are in proofs/LineLaws.antt; two texts are compared by `sameb` of pages/specs/Same.antt.
 use mathlib.Core.Path.{_≡_}
-use mathlib.Core.Bool.{Bool, true, false, cond, not, _&&_, _||_}
-use mathlib.Core.Logic.{_↔_}
+use mathlib.Core.Bool.{Bool, true, cond, not, _&&_, _||_}
 use mathlib.Core.List.{List, [], _∷_}
 use Prim.Native.Nat.{ℕ, suc, _+_, _≤_}
 use lib.Dec.{eqb}
@@ -62,12 +59,3 @@ starts was is = cond is 0 (cond was 1 0)
 unfoldable pub wordsIn : Bool → List ℕ → ℕ
 wordsIn was [] = 0
 wordsIn was (x ∷ xs) = starts was (blankb x) + wordsIn (blankb x) xs
-
-unfoldable pub sameb : List ℕ → List ℕ → Bool
-sameb [] [] = true
-sameb [] (y ∷ ys) = false
-sameb (x ∷ xs) [] = false
-sameb (x ∷ xs) (y ∷ ys) = eqb x y && sameb xs ys
-
-abbrev pub Same : Type 0
-Same = (xs ys : List ℕ) → (sameb xs ys ≡ true) ↔ (xs ≡ ys)

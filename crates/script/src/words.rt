@@ -3,7 +3,8 @@ ghost use mathlib.Core.Path.{_≡_};
 ghost use mathlib.Core.Bool.{true};
 ghost use Prim.Native.Nat.{_+_, _^_, _<_, _≤_};
 ghost use lib.ListN.{length, drop};
-ghost use Rattle.script.specs.Line.{blankb, letterb, otherb, plainb, insideb, Ends, WordAt, starts, wordsIn, sameb};
+ghost use Rattle.pages.specs.Same.{sameb};
+ghost use Rattle.script.specs.Line.{blankb, letterb, otherb, plainb, insideb, Ends, WordAt, starts, wordsIn};
 
 const SPACE: u8 = b' ';
 

@@ -27,11 +27,11 @@ use Rattle.table.proofs.Theorems.{sound-chain}
 
 -- ---- the test
 
-free-of-test : (k : Class) (t : Status) → freeOf k t ≡ true → t ≡ Free k
+pub free-of-test : (k : Class) (t : Status) → freeOf k t ≡ true → t ≡ Free k
 free-of-test k (Live c) h = absurd (not-both h refl)
 free-of-test k (Free c) h = ap Free (same-class c k h)
 
-test-free-of : (k : Class) (t : Status) → t ≡ Free k → freeOf k t ≡ true
+pub test-free-of : (k : Class) (t : Status) → t ≡ Free k → freeOf k t ≡ true
 test-free-of k t e = rw e (class-same k k refl)
 
 -- ---- one entry more

@@ -35,7 +35,7 @@ pub passed-none : (k : Class) (w : List ℕ) → passed k w 0 ≡ []
 unfolding sections entries
 passed-none k w = refl
 
-sections-append : (k : Class) (es fs : List Piece) → sections k (es ++ fs) ≡ sections k es ++ sections k fs
+pub sections-append : (k : Class) (es fs : List Piece) → sections k (es ++ fs) ≡ sections k es ++ sections k fs
 unfolding sections
 sections-append k [] fs = refl
 sections-append k (x ∷ es) fs = go (freeOf k (x .status)) (sections-append k es fs)

@@ -4,9 +4,8 @@ use Prim.Native.Nat.{_≤_, _<_, _-_}
 use mathlib.Core.Path.{_≡_, sym, _∙_}
 use lib.ListN.{length, drop}
 use borrow.Author.Needs.{needs}
-use borrow.Author.Tests.{ne-eqb}
-use Rattle.script.proofs.LineLaws.{same-next, same-stop, same-end, same-lengths}
-use Rattle.script.specs.Line.{sameb}
+use Rattle.pages.proofs.SameLaws.{same-next, same-stop, same-end, same-lengths}
+use Rattle.pages.specs.Same.{sameb}
 use Rattle.script.proofs.words.is_text.Statement.{statement}
 use Rattle.script.proofs.words.is_text.Tie as tie
 
@@ -34,7 +33,7 @@ returns-2 c =
     let a = c .before .before .before .before .before .before .args in
     let h : l .i < length (a .word .now) = search needs in
     let k : l .i < length (a .text .now) = search needs in
-    sym (same-stop (a .word .now) (a .text .now) (l .i) h k (ne-eqb _ _ (c .if2 .taken))) ∙ l .inv .1
+    sym (same-stop (a .word .now) (a .text .now) (l .i) h k (c .if2 .taken)) ∙ l .inv .1
 
 add-i : tie.Need-add-i Inv-loop μ-loop
 add-i c = search needs

@@ -3,19 +3,22 @@
 --   signed      every statement of specs/Signed.antt
 --
 -- Assumes nothing.
 use Rattle.demands.proofs.AnyOrder.{any-order, two-orders}
 use Rattle.demands.proofs.Edits.{edits, new-bytes}
 use Rattle.demands.proofs.Exactly.{exactly}
 use Rattle.demands.proofs.Keeps.{keeps, runs}
 use Rattle.demands.proofs.Listings.{listings}
 use Rattle.demands.proofs.OneResult.{one-result}
 use Rattle.demands.proofs.Placing.{placing}
 use Rattle.demands.proofs.Refusals.{refusals}
 use Rattle.demands.proofs.Run.{the-run}
-use Rattle.demands.specs.Signed.{Signed}
+use Rattle.demands_with.proofs.Summaries.{refusals-with, exactly-with, keeps-with, runs-with, any-order-with, two-orders-with, one-result-with}
+use Rattle.demands_with.proofs.Tied.{tied}
+use Rattle.signed.specs.Signed.{Signed}
 use Rattle.literal.proofs.Statements.{allocating, releasing, extending, shortening}
 use Rattle.message_promises.proofs.Promised.{lengths, read-exact, rest-exact, write-exact, acceptance, round-trip, one-meaning}
 use Rattle.table.proofs.Theorems.{determined, one-table}
+use Rattle.totals.proofs.Described.{summary-right, one-summary}
 
 pub signed : Signed
 signed =
@@ -45,4 +48,14 @@ signed =
       determined = determined;
       one-table = one-table;
       one-result = one-result;
+      summary-right = summary-right;
+      one-summary = one-summary;
+      tied = tied;
+      refusals-with = refusals-with;
+      exactly-with = exactly-with;
+      keeps-with = keeps-with;
+      runs-with = runs-with;
+      any-order-with = any-order-with;
+      two-orders-with = two-orders-with;
+      one-result-with = one-result-with;
     }

@@ -1,14 +1,17 @@
 -- All that the customer signs on, as one record: each field is a statement, and proofs/Signed.antt proves the record. So a statement without a
 -- proof does not pass the check; docs/PROMISES.md has for each field an edit that its proof refuses.
 --
--- The statements: those on the calls in Demands.antt, those on tables in table/specs/Theorems.antt, document 01's rules read literally in
+-- The statements: those on the calls in demands/specs/Demands.antt, those on the calls with a summary in demands_with/specs/Summaries.antt, those on
+-- tables in table/specs/Theorems.antt, on what a summary is in totals/specs/Described.antt, document 01's rules read literally in
 -- literal/specs/Statements.antt, those on the message in message_promises/specs/Promises.antt.
 --
 -- Assumes nothing.
 use Rattle.demands.specs.Demands.{Refusals, Keeps, Edits, NewBytes, Placing, Exactly, Listings, Runs, AnyOrder, TwoOrders, TheRun, OneResult}
+use Rattle.demands_with.specs.Summaries.{Tied, RefusalsWith, ExactlyWith, KeepsWith, RunsWith, AnyOrderWith, TwoOrdersWith, OneResultWith}
 use Rattle.literal.specs.Statements.{Allocating, Releasing, Extending, Shortening}
 use Rattle.message_promises.specs.Promises.{Lengths, ReadExact, RestExact, WriteExact, Acceptance, RoundTrip, OneMeaning}
 use Rattle.table.specs.Theorems.{Determined, OneTable}
+use Rattle.totals.specs.Described.{SummaryRight, OneSummary}
 
 pub record Signed : Type 0 where
   -- demand 1: any numbers and any lent table get an answer; a refused call changes no state and writes into no lent memory
@@ -42,3 +45,14 @@ pub record Signed : Type 0 where
   pub one-table : OneTable
   -- each call's promise allows one result
   pub one-result : OneResult
+  -- a summary is what the request says, number by number; and each call with one is tied to the call without it, so that all this is said of it too
+  pub summary-right : SummaryRight
+  pub one-summary : OneSummary
+  pub tied : Tied
+  pub refusals-with : RefusalsWith
+  pub exactly-with : ExactlyWith
+  pub keeps-with : KeepsWith
+  pub runs-with : RunsWith
+  pub any-order-with : AnyOrderWith
+  pub two-orders-with : TwoOrdersWith
+  pub one-result-with : OneResultWith

@@ -1,0 +1,2 @@
+-- The customer's theorems on the calls with a summary.
+pub mod Summaries

@@ -1,0 +1,2 @@
+-- What the contracts of `running` cite.
+pub mod Replacing

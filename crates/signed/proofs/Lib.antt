@@ -1,0 +1,2 @@
+-- The one proof of all that the customer signs on.
+pub mod Signed

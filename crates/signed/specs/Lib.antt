@@ -1,0 +1,2 @@
+-- All that the customer signs on.
+pub mod Signed
