@@ -1,19 +1,22 @@
 //! Random scripts for `filespace`. The model plays along, so that a script can name live pieces, sizes at every edge of the present
-//! table, and tables and states that are damaged in one place.
+//! table, and tables, states and summaries that are damaged in one place.
 //!
 //!   script     a script from a seed: calls on a space, on a wide table, on messages, or openings at the edges of their ranges
 //!
-//! Every call on a space is followed by `show words`, but for those that fill a wide table.
+//! Every call on a space is followed by `show words` and `show summary`; those that fill a wide table by the summary alone. Where a state or
+//! a table is set by hand, the summary of before would be refused whatever they are: it is mostly set to that of the entries, or worked out
+//! afresh.
 
 use crate::draw::Draw;
 use crate::message::{bytes_of, Fields, ABSENT, FULL_LENGTH, HEAD_LENGTH, UNDEFINED};
 use crate::model::{self, table_of, Entry, Model, State, ENTRY_WORDS, FREE_LARGE, LARGEST_LIMIT, LARGEST_PAGE};
-use crate::script::{read_line, show_words, state_line, words_line, write_line, Machine, MOST_WORDS};
+use crate::script::{fresh, read_line, show_summary, show_words, state_line, summary_line, words_line, write_line, Machine, MOST_WORDS};
+use crate::summary::{Summary, Totals, MOVED, TOTALS};
 
 const PAGES: [u64; 9] = [512, 512, 513, 1_000, 1_000, 1_023, 4_096, 65_536, LARGEST_PAGE];
 
 /// Lines that are no call, each with something else wrong, and lines that say nothing.
-const WRONG_LINES: [&str; 14] = [
+const WRONG_LINES: [&str; 20] = [
     "",
     "# a comment",
     "  # allocate raw 1",
@@ -28,6 +31,12 @@ const WRONG_LINES: [&str; 14] = [
     "list raw 4097",
     "read 0g",
     "read 012",
+    "summary",
+    "summary 0 0 0",
+    "fresh 1",
+    "show",
+    "show sections",
+    "show summary words",
 ];
 
 struct Author<'d> {
@@ -64,10 +73,11 @@ impl Author<'_> {
         answer
     }
 
-    /// Adds a call on a space, and a look at every word.
+    /// Adds a call on a space, and a look at every word and at the summary.
     fn call(&mut self, line: String) {
         self.say(line);
         self.say(show_words());
+        self.say(show_summary());
     }
 
     // Sorts of scripts.
@@ -80,6 +90,7 @@ impl Author<'_> {
                 0..=3 => self.damaged_state(),
                 4..=10 => self.damaged_words(),
                 11 => self.wrong_line(),
+                12..=16 => self.damaged_summary(),
                 _ => self.any_call(),
             }
         }
@@ -93,6 +104,7 @@ impl Author<'_> {
         while self.state().count < entries {
             let (kind, size) = (1 + self.draw.below(2), 1 + self.draw.below(page));
             self.say(format!("allocate {kind} {size}"));
+            self.say(show_summary());
         }
         for _ in 0..40 {
             self.any_call();
@@ -105,6 +117,8 @@ impl Author<'_> {
             let page = self.draw.pick(&[0, 1, 511, 512, 1_000, LARGEST_PAGE, LARGEST_PAGE + 1, u64::MAX]);
             let limit = self.draw.pick(&[0, page.wrapping_sub(1), page, page.wrapping_add(1), LARGEST_LIMIT, LARGEST_LIMIT + 1, u64::MAX]);
             let entries = self.draw.pick(&[0, 1, 3, 4, 5, 12, 1_024, 1_025, 2_048]);
+            let summary = self.any_summary();
+            self.say(summary_line(&summary));
             self.call(format!("open {page} {limit} {entries}"));
             self.any_call();
             self.call(format!("default {entries}"));
@@ -137,7 +151,8 @@ impl Author<'_> {
 
     fn any_call(&mut self) {
         match self.draw.below(100) {
-            0..=44 => self.allocate(),
+            0 | 1 => self.call(fresh()),
+            2..=44 => self.allocate(),
             45..=64 => self.release(),
             65..=79 => self.extend(),
             80..=91 => self.shorten(),
@@ -223,7 +238,7 @@ impl Author<'_> {
         let State { limit, end, .. } = self.state();
         let page = self.legal_page();
         let free: Vec<Entry> = self.model().entries().into_iter().filter(Entry::is_free).collect();
-        match self.draw.below(20) {
+        match self.draw.below(23) {
             0 => self.draw.below(2),
             1 => self.near(page),
             2 => {
@@ -242,8 +257,20 @@ impl Author<'_> {
             10 => page * (1 + self.draw.below(4)),
             11 => page + self.draw.below(3 * page),
             12..=14 => 1 + self.draw.below(16),
+            15 => self.edge_of_a_decade(),
+            16 | 17 => {
+                let section = if self.draw.once_in(2) { page } else { self.any_size(&free) };
+                section.saturating_sub(self.edge_of_a_decade())
+            }
             _ => 1 + self.draw.below(page),
         }
+    }
+
+    /// The first size of a decade of a summary, or one near it; mostly a low one.
+    fn edge_of_a_decade(&mut self) -> u64 {
+        let decades = self.draw.pick(&[4, 4, 4, 19]);
+        let power = self.draw.below(decades);
+        self.near(10u64.pow(power as u32))
     }
 
     /// The name of a live piece mostly, and now and then one that no live piece has.
@@ -309,12 +336,64 @@ impl Author<'_> {
     /// A call on the damaged space, and then the space as it was; a damaged one that is still sound may go on.
     fn try_and_restore(&mut self, before: Model) {
         let still_sound = model::is_sound(&self.state(), &self.model().table);
+        self.sum_up();
         self.any_call();
         if still_sound && self.draw.once_in(2) {
+            self.call(fresh());
             return;
         }
         self.say(words_line(&before.table));
         self.say(state_line(&before.state));
+        self.say(summary_line(&before.summary));
+    }
+
+    /// The summary of a space that was set by hand: that of its entries, so that it can be refused for itself alone; the one that `fresh`
+    /// gives, if any; or the one of before.
+    fn sum_up(&mut self) {
+        match self.draw.below(4) {
+            0 => {}
+            1 => self.call(fresh()),
+            _ => {
+                let Model { summary, .. } = self.model();
+                let summed = Summary { totals: Totals::of(&self.model().entries()), ..*summary };
+                self.say(summary_line(&summed));
+            }
+        }
+    }
+
+    /// A number of a summary, changed.
+    fn other(&mut self, number: u64) -> u64 {
+        let (down, up) = (number.wrapping_sub(1), number.wrapping_add(1));
+        self.draw.pick(&[down, up, 0, u64::MAX])
+    }
+
+    /// The summary with one of its numbers changed: any of them, the signed one as any other.
+    fn with_one_changed(&mut self, summary: &Summary) -> Summary {
+        let place = self.draw.below(TOTALS as u64 + 1) as usize;
+        if place == MOVED {
+            return Summary { moved: self.other(summary.moved as u64) as i64, ..*summary };
+        }
+        let mut numbers = summary.totals.numbers();
+        numbers[place] = self.other(numbers[place]);
+        Summary { totals: Totals::with(&numbers), ..*summary }
+    }
+
+    /// Any numbers, as a caller may lend them to an opening.
+    fn any_summary(&mut self) -> Summary {
+        let numbers: Vec<u64> = (0..TOTALS).map(|_| self.address()).collect();
+        Summary { totals: Totals::with(&numbers), moved: self.draw.word() as i64 }
+    }
+
+    /// A call with a damaged summary, and then one that agrees; one that still agrees goes on.
+    fn damaged_summary(&mut self) {
+        let before = self.model().summary;
+        let damaged = self.with_one_changed(&before);
+        self.say(summary_line(&damaged));
+        self.any_call();
+        if damaged.totals != before.totals {
+            let line = if self.draw.once_in(2) { fresh() } else { summary_line(&before) };
+            self.say(line);
+        }
     }
 
     fn damaged_state(&mut self) {

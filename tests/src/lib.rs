@@ -1,9 +1,11 @@
 //! Differential tests of the program `filespace`.
 //!
-//!   model      document 01's space: soundness, opening and the calls, read literally
+//!   model      document 01's space with request E2's summary: soundness, opening and the calls, read literally
+//!   summary    the numbers of a summary, worked out from entries
 //!   message    document 01's File Space Info message
 //!   script     the program's script language, answered by the model
 //!   document   document 01's own run and sentences, as calls with their answers
+//!   request    request E2's sentences, in the same form
 //!   sweep      scripts that change a good table, state or message in each place in turn
 //!   generate   random scripts, drawn with the model's knowledge of the table
 //!   draw       random numbers from a seed
@@ -11,7 +13,7 @@
 //!   play       a script played through a program, compared, and shrunk on a difference
 //!
 //! Programs: `runner` plays scripts through the program that it is given; `model_filespace` speaks the program's script
-//! language with the model, right or with one of document 01's errors, so that the runner itself can be tested.
+//! language with the model, right or with one of document 01's errors or one in a summary, so that the runner itself can be tested.
 
 pub mod document;
 pub mod draw;
@@ -19,6 +21,8 @@ pub mod generate;
 pub mod message;
 pub mod model;
 pub mod play;
+pub mod request;
 pub mod script;
+pub mod summary;
 pub mod sweep;
 pub mod tally;

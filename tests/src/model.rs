@@ -1,14 +1,19 @@
-//! Document 01's rules for a space, read literally: each rule stands beside the sentence that decides it.
+//! Document 01's rules for a space, with request E2's summary, read literally: each rule stands beside the sentence that decides it.
 //!
 //!   State      the four numbers P, M, E, n
 //!   Entry      a piece with its kind, one of the six
-//!   Slip       one of the errors that document 01 says a builder will be drawn to, or a refusal that writes; `Slip::None` is the model
+//!   Slip       one of the errors that document 01 says a builder will be drawn to, a refusal that writes, or an error in the summary;
+//!              `Slip::None` is the model
 //!   is_sound   whether a state and a table keep every rule of a sound table
-//!   Model      a state over a lent table of words, with the calls `open`, `allocate`, `release`, `extend`, `shorten`, `list`
+//!   Model      a state over a lent table of words with a lent summary, and the calls `open`, `allocate`, `release`, `extend`, `shorten`,
+//!              `list`, `fresh`
 //!   Draft      the entries and the E that a call would leave; a refused call drops its draft, so it changes nothing
 //!
-//! Written from document 01, and from decisions handed to the writer where it leaves a corner open; the library and its specs were
-//! not read. Sums that could pass 2^64 are over u128. Not here: the File Space Info message.
+//! What is document 01's was written from it, and from decisions handed to the writer where it leaves a corner open; the library and its specs
+//! were not read. What is the summary's was written from request E2's words, before the library had a summary. Sums that could pass 2^64 are
+//! over u128. Not here: the numbers of a summary (summary.rs), and the File Space Info message.
+
+use crate::summary::{Summary, Totals};
 
 pub const LEAST_PAGE: u64 = 512;
 pub const LARGEST_PAGE: u64 = 1 << 30;
@@ -68,7 +73,7 @@ pub struct Entry {
     pub kind: u64,
 }
 
-/// The errors of document 01's list, to see that the runner finds each.
+/// The errors of document 01's list, and errors in a summary, to see that the runner finds each.
 #[derive(Clone, Copy, Debug, Default, PartialEq, Eq)]
 pub enum Slip {
     #[default]
@@ -80,10 +85,19 @@ pub enum Slip {
     BorderByMask,
     EmptiedPageStaysSmall,
     RefusalWritesAWord,
+    SummaryNotCompared,
+    OneManagerCompared,
+    SignedNumberCompared,
+    RefusalWritesTheSummary,
+    BytesNotMovedDown,
+    LargestNotFoundAnew,
+    DecadeStartsTooLate,
+    OpeningKeepsTheDecades,
+    FreshKeepsTheSignedNumber,
 }
 
 /// Every slip with the name by which `model_filespace` takes it.
-pub const SLIPS: [(&str, Slip); 7] = [
+pub const SLIPS: [(&str, Slip); 16] = [
     ("first-fit", Slip::FirstFit),
     ("small-in-a-misaligned-rest", Slip::SmallInAMisalignedRest),
     ("merged-over-a-border", Slip::MergedOverABorder),
@@ -91,13 +105,22 @@ pub const SLIPS: [(&str, Slip); 7] = [
     ("border-by-mask", Slip::BorderByMask),
     ("emptied-page-stays-small", Slip::EmptiedPageStaysSmall),
     ("refusal-writes-a-word", Slip::RefusalWritesAWord),
+    ("summary-not-compared", Slip::SummaryNotCompared),
+    ("one-manager-compared", Slip::OneManagerCompared),
+    ("signed-number-compared", Slip::SignedNumberCompared),
+    ("refusal-writes-the-summary", Slip::RefusalWritesTheSummary),
+    ("bytes-not-moved-down", Slip::BytesNotMovedDown),
+    ("largest-not-found-anew", Slip::LargestNotFoundAnew),
+    ("decade-starts-too-late", Slip::DecadeStartsTooLate),
+    ("opening-keeps-the-decades", Slip::OpeningKeepsTheDecades),
+    ("fresh-keeps-the-signed-number", Slip::FreshKeepsTheSignedNumber),
 ];
 
 /// The code of the manager for large pieces; `METADATA` and `RAW` are those of the small ones.
-const LARGE: u64 = 3;
+pub const LARGE: u64 = 3;
 
 /// The kind of a free entry of a class: small metadata, small raw or large.
-fn free_kind(class: u64) -> u64 {
+pub fn free_kind(class: u64) -> u64 {
     match class {
         METADATA => FREE_METADATA,
         RAW => FREE_RAW,
@@ -221,11 +244,12 @@ fn must_be_one(former: &Entry, next: &Entry, in_one_page: bool) -> bool {
     former.is_free() && former.kind == next.kind && (former.kind == FREE_LARGE || in_one_page)
 }
 
-/// A state over a lent table.
+/// A state over a lent table, and the summary that is lent beside it.
 #[derive(Clone, Debug, Default)]
 pub struct Model {
     pub state: State,
     pub table: Vec<u64>,
+    pub summary: Summary,
     pub slip: Slip,
 }
 
@@ -235,15 +259,17 @@ impl Model {
         entries_of(&self.table, self.state.count).unwrap_or_default()
     }
 
-    /// Opens the space over the words in `table`: "Success zeroes every word and gives E = 0, n = 0." A refused opening leaves the
-    /// words as they were and gives a state of four zeros.
+    /// Opens the space over the words in `table`: "Success zeroes every word and gives E = 0, n = 0." "An accepted opening sets all to 0
+    /// whatever it held." A refused opening leaves the words and the summary as they were and gives a state of four zeros.
     pub fn open(&mut self, page: u64, limit: u64) -> Result<(), Refusal> {
         if !is_in_range(page, limit, self.table.len()) {
             self.state = State::default();
             return self.answered(Err(OPENING_OUT_OF_RANGE));
         }
+        let kept = if self.slip == Slip::OpeningKeepsTheDecades { self.summary.totals.counts } else { Totals::default().counts };
         self.state = State::of([page, limit, 0, 0]);
         self.table.fill(0);
+        self.summary = Summary { totals: Totals { counts: kept, ..Totals::default() }, moved: 0 };
         Ok(())
     }
 
@@ -287,7 +313,8 @@ impl Model {
         })
     }
 
-    /// "address and size of each free entry in address order", for a list slice of `room` words. "List 2, 3, 10."
+    /// "address and size of each free entry in address order", for a list slice of `room` words. "List 2, 3, 10." "Listing and the message
+    /// don't take" the summary.
     pub fn list(&self, manager: u64, room: usize) -> Result<Vec<(u64, u64)>, Refusal> {
         let draft = self.draft()?;
         if ![METADATA, RAW, LARGE].contains(&manager) {
@@ -301,14 +328,53 @@ impl Model {
         Ok(pairs)
     }
 
-    /// A call on a space: refusal 2 comes first, then those of `change`, then 6; only then is a word written.
+    /// Works the summary out afresh, for a caller that kept a table and no summary; nothing moved the end. Refused 2 where state and table
+    /// are not sound, and the summary is then as it was.
+    pub fn fresh(&mut self) -> Result<(), Refusal> {
+        let answer = self.draft().map(|draft| {
+            let moved = if self.slip == Slip::FreshKeepsTheSignedNumber { self.summary.moved } else { 0 };
+            self.summary = Summary { totals: self.totals_of(&draft.entries), moved };
+        });
+        self.answered(answer)
+    }
+
+    /// A call on a space: refusal 2 comes first, of a table or of a summary, then those of `change`, then 6; only then is a word written.
     fn call<T>(&mut self, change: impl FnOnce(&mut Draft) -> Result<T, Refusal>) -> Result<T, Refusal> {
         let answer = self.draft().and_then(|mut draft| {
+            self.agree(&draft.entries)?;
             let answer = change(&mut draft)?;
             self.write(&draft)?;
             Ok(answer)
         });
         self.answered(answer)
+    }
+
+    /// "One that disagrees with the table at entry is refused as 2": in any number but the signed one, which says nothing of the table.
+    fn agree(&self, entries: &[Entry]) -> Result<(), Refusal> {
+        let (held, due) = (self.summary.totals, Totals::of(entries));
+        let agrees = match self.slip {
+            Slip::SummaryNotCompared => true,
+            Slip::OneManagerCompared => held.managers[0] == due.managers[0],
+            Slip::SignedNumberCompared => held == due && self.summary.moved == 0,
+            _ => held == due,
+        };
+        if agrees { Ok(()) } else { Err(NOT_SOUND) }
+    }
+
+    /// "the summary worked out afresh from the new table", but for the signed number; a slip leaves something of the former one.
+    fn totals_of(&self, entries: &[Entry]) -> Totals {
+        let (former, mut totals) = (self.summary.totals, Totals::of(entries));
+        let managers = totals.managers.iter_mut().zip(former.managers);
+        match self.slip {
+            Slip::BytesNotMovedDown => managers.for_each(|(new, old)| new.bytes = new.bytes.max(old.bytes)),
+            Slip::LargestNotFoundAnew => managers.for_each(|(new, old)| new.largest = new.largest.max(old.largest)),
+            Slip::DecadeStartsTooLate => {
+                let a_byte_less: Vec<Entry> = entries.iter().map(|entry| Entry { size: entry.size - 1, ..*entry }).collect();
+                totals.counts = Totals::of(&a_byte_less).counts;
+            }
+            _ => {}
+        }
+        totals
     }
 
     /// The entries as they are, for a call to change; refused when "state and table are not sound together".
@@ -320,21 +386,27 @@ impl Model {
         Ok(Draft { state, entries, slip })
     }
 
-    /// Writes the draft, and 0 in every word after it; refused when "the resulting table needs more than C entries".
+    /// Writes the draft, and 0 in every word after it, with the summary of it and "by how much" the call "moved the end of file"; refused
+    /// when "the resulting table needs more than C entries".
     fn write(&mut self, draft: &Draft) -> Result<(), Refusal> {
         if draft.entries.len() > self.table.len() / ENTRY_WORDS {
             return Err(TABLE_FULL);
         }
+        let moved = draft.state.end as i64 - self.state.end as i64;
+        self.summary = Summary { totals: self.totals_of(&draft.entries), moved };
         self.state = draft.state;
         self.state.count = draft.entries.len() as u64;
         self.table = table_of(&draft.entries, self.table.len());
         Ok(())
     }
 
-    /// Hands the answer on. A refused call "writes nothing", but for the slip, which `list` cannot make: it has no table to write.
+    /// Hands the answer on. A refused call "writes nothing", and "leaves" the summary "unchanged", but for the slips, which `list` cannot
+    /// make: it has no table to write.
     fn answered<T>(&mut self, answer: Result<T, Refusal>) -> Result<T, Refusal> {
-        if self.slip == Slip::RefusalWritesAWord && answer.is_err() {
-            self.table.iter_mut().take(1).for_each(|word| *word = word.wrapping_add(1));
+        match self.slip {
+            Slip::RefusalWritesAWord if answer.is_err() => self.table.iter_mut().take(1).for_each(|word| *word = word.wrapping_add(1)),
+            Slip::RefusalWritesTheSummary if answer.is_err() => self.summary.moved = 0,
+            _ => {}
         }
         answer
     }

@@ -4,7 +4,8 @@
 //!   compare      the first difference between the program and the model over a stream of scripts, if there is one
 //!   shrink       the shortest script found that still shows a difference
 
-use crate::script::{state_line, words_line, Machine};
+use crate::model::Model;
+use crate::script::{state_line, summary_line, words_line, Machine};
 use crate::tally::{Met, Tally};
 use std::io::{BufRead, BufReader, Write};
 use std::process::{Command, Stdio};
@@ -73,9 +74,14 @@ impl Program {
     }
 }
 
-/// The first line that is answered otherwise than `expected` says; lines for which it says nothing have no answer.
+/// The first line that the program answers otherwise than `expected` says; lines for which it says nothing have no answer.
 pub fn first_difference(program: &Program, lines: &[String], expected: &[Option<String>]) -> Option<Difference> {
-    let mut found = program.answers(lines).into_iter();
+    differs(program.answers(lines), expected)
+}
+
+/// The first line whose answer, of those that were found, is not the one expected.
+fn differs(found: Vec<String>, expected: &[Option<String>]) -> Option<Difference> {
+    let mut found = found.into_iter();
     for (line, expected) in expected.iter().enumerate() {
         let Some(expected) = expected else { continue };
         let found = found.next().unwrap_or_else(|| NO_ANSWER.to_string());
@@ -83,38 +89,48 @@ pub fn first_difference(program: &Program, lines: &[String], expected: &[Option<
             return Some(Difference { line, expected: expected.clone(), found });
         }
     }
-    found.next().map(|found| Difference { line: lines.len(), expected: NO_ANSWER.to_string(), found })
+    found.next().map(|found| Difference { line: expected.len(), expected: NO_ANSWER.to_string(), found })
 }
 
 /// The model's answers to a stream of lines, and what each line met.
 fn expected(lines: &[String]) -> (Vec<Option<String>>, Vec<Met>) {
     let mut machine = Machine::default();
-    lines.iter().map(|line| (machine.answer(line), Met::after(line, &machine.model))).unzip()
+    let mut play = |line: &String| {
+        let summary = machine.model.summary;
+        (machine.answer(line), Met::between(line, &summary, &machine.model))
+    };
+    lines.iter().map(&mut play).unzip()
 }
 
 pub fn compare(program: &Program, lines: &[String], tally: &mut Tally) -> Option<Difference> {
-    let (expected, met) = expected(lines);
-    let difference = first_difference(program, lines, &expected);
+    // The model answers while the program does.
+    let (found, (expected, met)) = thread::scope(|both| {
+        let found = both.spawn(|| program.answers(lines));
+        let expected = expected(lines);
+        (found.join().expect("the program's answers"), expected)
+    });
+    let difference = differs(found, &expected);
     let compared = difference.as_ref().map_or(lines.len(), |d| d.line);
-    for ((line, answer), met) in lines.iter().zip(&expected).zip(&met).take(compared) {
+    for (answer, met) in expected.iter().zip(&met).take(compared) {
         if let Some(answer) = answer {
-            tally.count(line, answer, met);
+            tally.count(answer, met);
         }
     }
     difference
 }
 
-/// The model's state and table before line `from`, set by two lines, and the lines from there on up to `to`.
+/// The model's table, state and summary before line `from`, each set by a line, and the lines from there on up to `to`.
 fn jumped(lines: &[String], from: usize, to: usize) -> Vec<String> {
     let mut machine = Machine::default();
     for line in &lines[..from] {
         machine.answer(line);
     }
-    let set = [words_line(&machine.model.table), state_line(&machine.model.state)];
+    let Model { table, state, summary, .. } = &machine.model;
+    let set = [words_line(table), state_line(state), summary_line(summary)];
     set.into_iter().chain(lines[from..to].iter().cloned()).collect()
 }
 
-/// A start for shrinking: the last lines alone, over the state and table that they met, where that still shows a difference.
+/// A start for shrinking: the last lines alone, over the state, table and summary that they met, where that still shows a difference.
 fn last_lines(program: &Program, lines: &[String], difference: Difference) -> (Vec<String>, Difference) {
     let to = lines.len().min(difference.line + 1);
     for back in 1..=MOST_BACK.min(to) {

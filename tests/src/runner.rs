@@ -1,5 +1,5 @@
-//! Plays document 01's own calls, then sweeps, then random scripts through a program that speaks `filespace`'s language, and compares
-//! every answer and every word with the model.
+//! Plays the calls of document 01 and of request E2, then sweeps, then random scripts through a program that speaks `filespace`'s language,
+//! and compares every answer, every word and every number of the summary with the model.
 //!
 //!   runner [--seed N] [--calls N] COMMAND [WORDS..]
 //!
@@ -7,12 +7,12 @@
 //! expected and what was found, and the exit status is 1. It is 1 too where a run of 20,000 calls or more lacked a call, one of its refusals
 //! or a situation: such a run shows too little.
 
-use difftest::document::{script_of, CLAIMS};
+use difftest::document::{script_of, Claim};
 use difftest::draw::Draw;
 use difftest::generate::script;
 use difftest::play::{compare, first_difference, shrink, Difference, Program};
-use difftest::sweep;
 use difftest::tally::Tally;
+use difftest::{document, request, sweep};
 use std::process::ExitCode;
 use std::time::{Instant, SystemTime, UNIX_EPOCH};
 
@@ -65,18 +65,18 @@ fn report(lines: &[String], difference: &Difference) {
     println!("found:    {}", difference.found);
 }
 
-/// The document's claims hold of the program.
-fn claims_hold(program: &Program) -> bool {
-    for claim in CLAIMS {
+/// The claims of a paper hold of the program.
+fn claims_hold(program: &Program, paper: &str, claims: &[Claim]) -> bool {
+    for claim in claims {
         let lines = script_of(claim);
         let stated: Vec<_> = claim.calls.iter().map(|(_, answer)| Some(answer.to_string())).collect();
         if let Some(difference) = first_difference(program, &lines, &stated) {
-            println!("Document 01: {}", claim.says);
+            println!("{paper}: {}", claim.says);
             report(&lines[..lines.len().min(difference.line + 1)], &difference);
             return false;
         }
     }
-    println!("document 01: {} claims hold", CLAIMS.len());
+    println!("{paper}: {} claims hold", claims.len());
     true
 }
 
@@ -118,10 +118,12 @@ fn main() -> ExitCode {
     println!("seed {}", options.seed);
     let began = Instant::now();
     let mut tally = Tally::default();
-    let agree = claims_hold(&options.program) && scripts_agree(&options, &mut tally);
+    let papers = [("document 01", document::CLAIMS), ("request E2", request::CLAIMS)];
+    let hold = papers.iter().all(|(paper, claims)| claims_hold(&options.program, paper, claims));
+    let agree = hold && scripts_agree(&options, &mut tally);
     println!("{}", tally.lines().join("\n"));
-    let Tally { answers, words, wrong_lines, .. } = tally;
-    println!("{} calls and {wrong_lines} wrong lines: {answers} answers and {words} words compared", tally.calls());
+    let Tally { answers, words, summaries, wrong_lines, .. } = tally;
+    println!("{} calls and {wrong_lines} wrong lines: {answers} answers, {words} words and {summaries} summaries compared", tally.calls());
     println!("in {:.1} s", began.elapsed().as_secs_f64());
     if !agree {
         println!("NOT the same (seed {})", options.seed);

@@ -1,14 +1,16 @@
 //! The script language of the program `filespace`, answered by the model: one call to a line, one line for an answer.
 //!
 //!   Machine    the model with a count of lines; `answer` takes a line and gives what the program must print, if anything
-//!   state_line, words_line, show_words   lines that set a state or a table, and the one that shows every word
+//!   state_line, words_line, summary_line   lines that set a state, a table or a summary
+//!   show_words, show_summary, fresh   lines that show every word, show every number of the summary, and work it out afresh
 //!   read_line, write_line   lines that read a message out of lent bytes, and write one into a room
 //!   six        six numbers, as the addresses of small or of large managers
 //!
-//! Not here: `table` and `map`, whose answers are pictures for a person.
+//! Not here: `table`, `map` and `sheet`, whose answers are pictures for a person.
 
 use crate::message::{self, Fields};
 use crate::model::{Model, Refusal, State, DEFAULT_LIMIT, DEFAULT_PAGE, ENTRY_WORDS};
+use crate::summary::{Summary, Totals, MOVED, TOTALS};
 
 pub const LONGEST_LINE: usize = 100_000;
 pub const MOST_ENTRIES: u64 = 2_048;
@@ -42,6 +44,15 @@ fn number(word: &str) -> Result<u64, Wrong> {
 
 fn numbers(words: &[&str]) -> Result<Vec<u64>, Wrong> {
     words.iter().map(|w| number(w)).collect()
+}
+
+/// A number that may be negative: a minus sign, and its digits right behind it.
+fn signed(word: &str) -> Result<i64, Wrong> {
+    let number = match word.strip_prefix('-') {
+        Some(digits) => 0i64.checked_sub_unsigned(number(digits)?),
+        None => 0i64.checked_add_unsigned(number(word)?),
+    };
+    number.ok_or(NUMBER_TOO_LARGE)
 }
 
 /// A number, or a word that stands for one: the first name for 1, the second for 2, and so on.
@@ -87,8 +98,25 @@ pub fn words_line(table: &[u64]) -> String {
     format!("words {}", joined(table))
 }
 
+/// The 29 numbers of a summary, the signed one last.
+fn joined_summary(summary: &Summary) -> String {
+    format!("{} {}", joined(&summary.totals.numbers()), summary.moved)
+}
+
+pub fn summary_line(summary: &Summary) -> String {
+    format!("summary {}", joined_summary(summary))
+}
+
 pub fn show_words() -> String {
     "show words".to_string()
+}
+
+pub fn show_summary() -> String {
+    "show summary".to_string()
+}
+
+pub fn fresh() -> String {
+    "fresh".to_string()
 }
 
 pub fn read_line(lent: &[u8]) -> String {
@@ -111,6 +139,11 @@ fn with_words(head: &str, words: &[String]) -> String {
 
 fn refused(why: Refusal) -> String {
     format!("refused {why}")
+}
+
+/// Done or refused, by what a call answers.
+fn told(result: Result<(), Refusal>) -> String {
+    result.map_or_else(refused, |()| "done".to_string())
 }
 
 impl Machine {
@@ -145,6 +178,8 @@ impl Machine {
             "list" => self.list(words),
             "state" => self.set_state(words),
             "words" => self.set_words(words),
+            "summary" => self.set_summary(words),
+            "fresh" => self.fresh(words),
             "show" => self.show(words),
             "read" => read(words),
             "write" => write(words),
@@ -158,10 +193,7 @@ impl Machine {
     }
 
     fn done(&self, result: Result<(), Refusal>) -> String {
-        self.with_state(match result {
-            Ok(()) => "done".to_string(),
-            Err(why) => refused(why),
-        })
+        self.with_state(told(result))
     }
 
     fn open_with(&mut self, page: u64, limit: u64, entries: u64) -> Result<String, Wrong> {
@@ -227,12 +259,26 @@ impl Machine {
         Ok("set".to_string())
     }
 
+    fn set_summary(&mut self, words: &[&str]) -> Result<String, Wrong> {
+        exactly(TOTALS + 1, words)?;
+        let totals = Totals::with(&numbers(&words[..TOTALS])?);
+        self.model.summary = Summary { totals, moved: signed(words[MOVED])? };
+        Ok("set".to_string())
+    }
+
+    /// The state stays as it is, so the answer does not say it.
+    fn fresh(&mut self, words: &[&str]) -> Result<String, Wrong> {
+        exactly(0, words)?;
+        Ok(told(self.model.fresh()))
+    }
+
     fn show(&mut self, words: &[&str]) -> Result<String, Wrong> {
-        if words != ["words"] {
-            return Err(NO_CALL);
+        exactly(1, words)?;
+        match words[0] {
+            "words" => Ok(with_words("words:", &self.model.table.iter().map(u64::to_string).collect::<Vec<_>>())),
+            "summary" => Ok(format!("summary: {}", joined_summary(&self.model.summary))),
+            _ => Err(NO_CALL),
         }
-        let words: Vec<String> = self.model.table.iter().map(u64::to_string).collect();
-        Ok(with_words("words:", &words))
     }
 }
 

@@ -1,12 +1,14 @@
-//! Scripts that change a good table, state or message in each place in turn, lend each number of bytes for a message, go through all small
-//! tables at a page's edges, fill the largest one, and try lines at the edges of the script language.
+//! Scripts that change a good table, state, summary or message in each place in turn, lend each number of bytes for a message, go through all
+//! small tables at a page's edges and sections at each decade's edges, fill the largest table, and try lines at the edges of the script
+//! language.
 //!
 //!   scripts    all of them; they are the same in every run
 //!   messages   the good messages
 
 use crate::message::{bytes_of, Fields, ABSENT, FULL_LENGTH, HEAD_LENGTH, UNDEFINED};
-use crate::model::{table_of, Entry, State, ENTRY_WORDS, LARGEST_LIMIT};
-use crate::script::{read_line, show_words, six, state_line, words_line, write_line, LONGEST_LINE, MOST_WORDS};
+use crate::model::{entries_of, table_of, Entry, State, ENTRY_WORDS, FREE_LARGE, LARGEST_LIMIT, LIVE_LARGE};
+use crate::script::{fresh, read_line, show_summary, show_words, six, state_line, summary_line, words_line, write_line, LONGEST_LINE, MOST_WORDS};
+use crate::summary::{Summary, Totals, COUNTS, TOTALS};
 
 /// Document 01's state and table after step 5.
 const STATE: State = State { page: 512, limit: 5_120, end: 2_560, count: 8 };
@@ -26,11 +28,12 @@ fn table() -> Vec<u64> {
 }
 
 pub fn scripts() -> Vec<Vec<String>> {
-    let damaged = [each_word(), each_number_of_the_state(), each_length_of_a_table()];
-    let tables = [each_small_table(512), each_small_table(1_000), largest_table()];
+    let damaged = [each_word(), each_number_of_the_state(), each_length_of_a_table(), each_number_of_the_summary()];
+    let tables = [each_small_table(512), each_small_table(1_000), each_decade(512), each_decade(1_000), largest_table()];
     let read = [each_byte_of_a_message(), each_length_of_a_message()];
     let written = [each_room_for_a_message(), each_address_without_persistence()];
-    damaged.into_iter().chain(tables).chain(read).chain(written).chain([edges_of_lines()]).collect()
+    let lines = [edges_of_lines(), edges_of_summary_lines()];
+    damaged.into_iter().chain(tables).chain(read).chain(written).chain(lines).collect()
 }
 
 fn opening() -> String {
@@ -48,8 +51,15 @@ fn changes(word: u64) -> [u64; 9] {
 }
 
 /// Calls that a damaged space gets: one that writes nothing, and one that would.
-fn probes() -> [String; 3] {
-    ["list large 100".to_string(), "release 96 416".to_string(), show_words()]
+fn probes() -> [String; 4] {
+    ["list large 100".to_string(), "release 96 416".to_string(), show_words(), show_summary()]
+}
+
+/// A state and a table with the summary of its entries, as far as it has entries, so that what is refused is refused for state and table. It
+/// is worked out afresh before that.
+fn set(state: &State, table: &[u64]) -> [String; 5] {
+    let totals = Totals::of(&entries_of(table, state.count).unwrap_or_default());
+    [state_line(state), words_line(table), fresh(), show_summary(), summary_line(&Summary { totals, moved: 0 })]
 }
 
 /// The numbers with each of them changed in turn.
@@ -62,7 +72,7 @@ fn each_change(numbers: &[u64]) -> Vec<Vec<u64>> {
 fn probed(spaces: impl IntoIterator<Item = (State, Vec<u64>)>) -> Vec<String> {
     let mut lines = vec![opening()];
     for (state, table) in spaces {
-        lines.extend([state_line(&state), words_line(&table)]);
+        lines.extend(set(&state, &table));
         lines.extend(probes());
     }
     lines
@@ -87,6 +97,15 @@ fn each_length_of_a_table() -> Vec<String> {
     }))
 }
 
+/// A good summary with each of its numbers changed in turn, over a good state and table: only the signed number may be any.
+fn each_number_of_the_summary() -> Vec<String> {
+    let good = Totals::of(&ENTRIES);
+    let damaged = each_change(&good.numbers()).into_iter().map(|numbers| Summary { totals: Totals::with(&numbers), moved: 0 });
+    let signed = [0, 1, -1, 512, -512, i64::MAX, i64::MIN].map(|moved| Summary { totals: good, moved });
+    let probe = |summary| [state_line(&STATE), words_line(&table()), summary_line(&summary)].into_iter().chain(probes());
+    opened(damaged.chain(signed).flat_map(probe))
+}
+
 /// Each way to choose `count` of these.
 fn choices(of: &[u64], count: usize) -> Vec<Vec<u64>> {
     if count == 0 {
@@ -96,8 +115,8 @@ fn choices(of: &[u64], count: usize) -> Vec<Vec<u64>> {
     choices(of, count - 1).into_iter().flat_map(with).collect()
 }
 
-/// Entries of these sizes and kinds, one behind the other, in a table of 4; the first one is released. Sums go round at 2^64.
-fn in_a_row(page: u64, sizes: &[u64], kinds: &[u64]) -> [String; 4] {
+/// Entries of these sizes and kinds, one behind the other, set in a table of 4, and a call on them. Sums go round at 2^64.
+fn in_a_row(page: u64, sizes: &[u64], kinds: &[u64], call: String) -> Vec<String> {
     let mut entries = Vec::new();
     let mut end: u64 = 0;
     for (size, kind) in sizes.iter().zip(kinds) {
@@ -106,7 +125,7 @@ fn in_a_row(page: u64, sizes: &[u64], kinds: &[u64]) -> [String; 4] {
     }
     let table = table_of(&entries, 4 * ENTRY_WORDS);
     let state = State { page, limit: LARGEST_LIMIT, end, count: sizes.len() as u64 };
-    [state_line(&state), words_line(&table), format!("release 0 {}", sizes[0]), show_words()]
+    set(&state, &table).into_iter().chain([call, show_words(), show_summary()]).collect()
 }
 
 /// Each table of up to three entries of any kinds, with sizes at a page's edges, whose end is a page's border: few are sound, and some
@@ -117,10 +136,23 @@ fn each_small_table(page: u64) -> Vec<String> {
     for count in 1..=3 {
         let ends_at_a_border = |sizes: &Vec<u64>| sizes.iter().fold(0u64, |end, size| end.wrapping_add(*size)) % page == 0;
         for sizes in choices(&edges, count).into_iter().filter(ends_at_a_border) {
-            lines.extend(choices(&[1, 2, 3, 4, 5, 6], count).iter().flat_map(|kinds| in_a_row(page, &sizes, kinds)));
+            let released = |kinds: &Vec<u64>| in_a_row(page, &sizes, kinds, format!("release 0 {}", sizes[0]));
+            lines.extend(choices(&[1, 2, 3, 4, 5, 6], count).iter().flat_map(released));
         }
     }
     lines
+}
+
+/// A free large section of each size at a decade's edges, between two live pieces, the first of which makes it end at a border: a byte more
+/// by a shorten of that piece, and a byte less by an extend.
+fn each_decade(page: u64) -> Vec<String> {
+    let row = |size: u64, call: &str| {
+        let first = 2 * page - size % page;
+        in_a_row(page, &[first, size, page], &[LIVE_LARGE, FREE_LARGE, LIVE_LARGE], format!("{call} 0 {first} 1"))
+    };
+    let edges = (0..COUNTS as u32).map(|decade| 10u64.pow(decade));
+    let sizes = edges.flat_map(|edge| [edge - 1, edge, edge + 1]).filter(|size| *size > 0);
+    opened(sizes.flat_map(|size| [row(size, "shorten"), row(size, "extend")].concat()))
 }
 
 /// The largest table with all entries taken, 512 pages of a small piece and a free rest: calls that need an entry more, and calls that need
@@ -147,8 +179,9 @@ fn largest_table() -> Vec<String> {
         "list metadata 1020",
         "list metadata 1019",
     ];
-    let mut lines = vec!["open 512 1048576 1024".to_string(), state_line(&State::of([512, 1_048_576, 262_144, 1_024])), words_line(&table)];
-    lines.extend(calls.iter().flat_map(|call| [call.to_string(), show_words()]));
+    let mut lines = vec!["open 512 1048576 1024".to_string()];
+    lines.extend(set(&State::of([512, 1_048_576, 262_144, 1_024]), &table));
+    lines.extend(calls.iter().flat_map(|call| [call.to_string(), show_words(), show_summary()]));
     lines
 }
 
@@ -215,4 +248,19 @@ fn edges_of_lines() -> Vec<String> {
     let padded_lines = [LONGEST_LINE, LONGEST_LINE + 1, 3 * LONGEST_LINE].map(padded);
     let edges = padded_lines.into_iter().chain([zeros(MOST_WORDS), zeros(MOST_WORDS + 1), "words".to_string()]);
     opened(edges.flat_map(|line| [line, show_words()]).chain([opening()]))
+}
+
+/// One number more and one less than a summary has, each number in turn too large, negative or none, and the signed number at its edges.
+fn edges_of_summary_lines() -> Vec<String> {
+    let line = |count: usize, place: usize, word: &str| {
+        let words: Vec<&str> = (0..count).map(|i| if i == place { word } else { "7" }).collect();
+        format!("summary {}", words.join(" "))
+    };
+    let counts = [TOTALS, TOTALS + 1, TOTALS + 2].map(|count| line(count, 0, "8"));
+    let wrong = ["18446744073709551616", "-1", "x", "18446744073709551615"];
+    let places = (0..TOTALS).flat_map(|place| wrong.map(|word| line(TOTALS + 1, place, word)));
+    let edges = ["9223372036854775807", "9223372036854775808", "-9223372036854775808", "-9223372036854775809", "18446744073709551616"];
+    let forms = ["-0", "-", "--1", "+1", "1-", "-18446744073709551616"];
+    let signed = edges.iter().chain(&forms).map(|word| line(TOTALS + 1, TOTALS, word));
+    opened(counts.into_iter().chain(places).chain(signed).flat_map(|line| [line, show_summary()]).chain([opening(), show_summary()]))
 }

@@ -1,15 +1,16 @@
-//! What was compared: calls by name and answer, situations, words. A long run that lacks one of document 01's refusals, or a situation, is no
-//! good run.
+//! What was compared: calls by name and answer, situations, words, summaries. A long run that lacks one of document 01's refusals, a
+//! situation or a decade of sections is no good run.
 //!
-//!   CALLS        document 01's calls, each with the refusals that it can give
+//!   CALLS        document 01's calls and `fresh`, each with the refusals that it can give
 //!   SITUATIONS   what calls are to meet
 //!   Tally        the counts; `missing` names what never came
 
 use crate::message::HEAD_LENGTH;
-use crate::model::{Model, ENTRY_WORDS, LARGEST_PAGE, NOT_SOUND, SLICE_TOO_SHORT};
+use crate::model::{is_sound, Model, ENTRY_WORDS, LARGEST_PAGE, NOT_SOUND, SLICE_TOO_SHORT};
+use crate::summary::{Summary, Totals, COUNTS};
 
 /// The refusals in document 01's order. Not here: 6 for release, which cannot come (docs/DECISIONS.md, 9).
-pub const CALLS: [(&str, &[u64]); 9] = [
+pub const CALLS: [(&str, &[u64]); 10] = [
     ("open", &[1]),
     ("default", &[1]),
     ("allocate", &[2, 3, 4, 5, 6]),
@@ -19,32 +20,38 @@ pub const CALLS: [(&str, &[u64]); 9] = [
     ("list", &[2, 3, 10]),
     ("read", &[10, 11, 12]),
     ("write", &[12, 10]),
+    ("fresh", &[2]),
 ];
 
 const ACCEPTED: usize = 0;
 const REFUSALS: usize = 12;
 
-/// What a call met: the space after it, and whether it names a number near 2^64.
+/// What a call met: the space after it, the summary before and after it, and whether it names a number near 2^64.
 #[derive(Clone, Debug, Default)]
 pub struct Met {
+    pub call: String,
     pub page: u64,
     pub capacity: u64,
     pub count: u64,
     pub is_near_the_largest: bool,
+    pub before: Summary,
+    pub after: Summary,
+    /// The summary after the call disagrees with a sound table.
+    pub disagrees: bool,
 }
 
 /// By what a call met, and by its answer.
 type IsMet = fn(&Met, &str) -> bool;
 
-pub const SITUATIONS: [(&str, IsMet); 15] = [
-    ("P = 512", |m, _| m.page == 512),
-    ("P = 1,000", |m, _| m.page == 1_000),
-    ("P = 4,096", |m, _| m.page == 4_096),
-    ("P = 2^30", |m, _| m.page == LARGEST_PAGE),
-    ("C = 4", |m, _| m.capacity == 4),
-    ("C = 4, all taken", |m, _| m.capacity == 4 && m.count == 4),
-    ("C = 1,024, all taken", |m, _| m.capacity == 1_024 && m.count == 1_024),
-    ("a number within 1,000 of 2^64", |m, _| m.is_near_the_largest),
+pub const SITUATIONS: [(&str, IsMet); 27] = [
+    ("P = 512", |m, a| is_past_2(a) && m.page == 512),
+    ("P = 1,000", |m, a| is_past_2(a) && m.page == 1_000),
+    ("P = 4,096", |m, a| is_past_2(a) && m.page == 4_096),
+    ("P = 2^30", |m, a| is_past_2(a) && m.page == LARGEST_PAGE),
+    ("C = 4", |m, a| is_past_2(a) && m.capacity == 4),
+    ("C = 4, all taken", |m, a| is_past_2(a) && m.capacity == 4 && m.count == 4),
+    ("C = 1,024, all taken", |m, a| is_past_2(a) && m.capacity == 1_024 && m.count == 1_024),
+    ("a number within 1,000 of 2^64", |m, a| is_past_2(a) && m.is_near_the_largest),
     ("a head cut short", |_, a| cut_short(a).is_some_and(|lent| lent < HEAD_LENGTH)),
     ("addresses cut short", |_, a| cut_short(a).is_some_and(|lent| lent >= HEAD_LENGTH)),
     ("a message of 29 bytes read", |_, a| read_with(a, "persist 0").is_some()),
@@ -52,15 +59,57 @@ pub const SITUATIONS: [(&str, IsMet); 15] = [
     ("a message of 125 bytes read", |_, a| read_with(a, "persist 1").is_some()),
     ("a message of 29 bytes written", |_, a| wrote_with(a, "00")),
     ("a message of 125 bytes written", |_, a| wrote_with(a, "01")),
+    ("a summary that disagrees, refused", |m, a| m.disagrees && !is_past_2(a)),
+    ("a summary that disagrees, listed", |m, a| m.disagrees && is_past_2(a) && m.call == "list"),
+    ("a signed number that no call leaves, accepted", |m, a| is_change(m, a) && m.before.moved % m.page as i64 != 0),
+    ("the largest metadata section gone", |m, a| is_change(m, a) && m.largest_falls(0)),
+    ("the largest raw section gone", |m, a| is_change(m, a) && m.largest_falls(1)),
+    ("the largest large section gone", |m, a| is_change(m, a) && m.largest_falls(2)),
+    ("an end moved up", |m, a| is_change(m, a) && m.after.moved > 0),
+    ("an end moved down", |m, a| is_change(m, a) && m.after.moved < 0),
+    ("a summary that an opening sets to 0", |m, a| m.is_opening() && refusal_in(a).is_none() && m.before != Summary::default()),
+    ("a summary that a refused opening leaves", |m, a| m.is_opening() && refusal_in(a).is_some() && m.before != Summary::default()),
+    ("a summary worked out afresh to another one", |m, a| m.call == "fresh" && is_past_2(a) && m.before.totals != m.after.totals),
+    ("a summary that a refused fresh leaves", |m, a| m.call == "fresh" && !is_past_2(a) && m.before != Summary::default()),
 ];
 
 impl Met {
-    pub fn after(line: &str, model: &Model) -> Met {
+    /// What a line met that left this model, by the summary before it.
+    pub fn between(line: &str, before: &Summary, model: &Model) -> Met {
         let near = |word: &str| word.parse::<u64>().is_ok_and(|n| n > u64::MAX - 1_000);
-        let capacity = (model.table.len() / ENTRY_WORDS) as u64;
-        let is_near_the_largest = line.split_ascii_whitespace().any(near);
-        Met { page: model.state.page, capacity, count: model.state.count, is_near_the_largest }
+        let mut words = line.split_ascii_whitespace();
+        let is_near_the_largest = words.clone().any(near);
+        let disagrees = Totals::of(&model.entries()) != model.summary.totals && is_sound(&model.state, &model.table);
+        Met {
+            call: words.next().unwrap_or_default().to_string(),
+            page: model.state.page,
+            capacity: (model.table.len() / ENTRY_WORDS) as u64,
+            count: model.state.count,
+            is_near_the_largest,
+            before: *before,
+            after: model.summary,
+            disagrees,
+        }
     }
+
+    /// The largest section of the manager at this place is gone, and what is left is smaller.
+    fn largest_falls(&self, manager: usize) -> bool {
+        self.after.totals.managers[manager].largest < self.before.totals.managers[manager].largest
+    }
+
+    fn is_opening(&self) -> bool {
+        self.call == "open" || self.call == "default"
+    }
+}
+
+/// The call got past refusal 2, whatever it answers then.
+fn is_past_2(answer: &str) -> bool {
+    refusal_in(answer) != Some(NOT_SOUND)
+}
+
+/// An accepted call that may change a table.
+fn is_change(met: &Met, answer: &str) -> bool {
+    refusal_in(answer).is_none() && ["allocate", "release", "extend", "shorten"].contains(&met.call.as_str())
 }
 
 #[derive(Clone, Debug, Default)]
@@ -69,11 +118,15 @@ pub struct Tally {
     pub answers: u64,
     /// Words of tables seen by `show words`.
     pub words: u64,
+    /// Summaries seen by `show summary`.
+    pub summaries: u64,
     /// Lines that are no call.
     pub wrong_lines: u64,
     /// Calls by name and refusal; those that were accepted come first.
     of: [[u64; REFUSALS + 1]; CALLS.len()],
     situations: [u64; SITUATIONS.len()],
+    /// Changes that left a section in each count of a summary.
+    decades: [u64; COUNTS],
 }
 
 /// The number of the refusal that an answer says.
@@ -103,29 +156,29 @@ fn wrote_with(answer: &str, persist: &str) -> bool {
 }
 
 impl Tally {
-    pub fn count(&mut self, line: &str, answer: &str, met: &Met) {
+    pub fn count(&mut self, answer: &str, met: &Met) {
         self.answers += 1;
         if let Some(words) = answer.strip_prefix("words:") {
             self.words += words.split_ascii_whitespace().count() as u64;
         }
+        self.summaries += u64::from(answer.starts_with("summary:"));
         if answer.starts_with("line ") {
             self.wrong_lines += 1;
             return;
         }
-        let call = line.split_ascii_whitespace().next();
-        let Some(of) = CALLS.iter().position(|(name, _)| Some(*name) == call) else {
+        let Some(of) = CALLS.iter().position(|(name, _)| *name == met.call) else {
             return;
         };
-        let refusal = refusal_in(answer);
-        self.of[of][refusal.map_or(ACCEPTED, |number| number as usize)] += 1;
-        if refusal != Some(NOT_SOUND) {
-            for (count, (_, is_met)) in self.situations.iter_mut().zip(&SITUATIONS) {
-                *count += u64::from(is_met(met, answer));
-            }
+        self.of[of][refusal_in(answer).map_or(ACCEPTED, |number| number as usize)] += 1;
+        for (count, (_, is_met)) in self.situations.iter_mut().zip(&SITUATIONS) {
+            *count += u64::from(is_met(met, answer));
+        }
+        for (count, sections) in self.decades.iter_mut().zip(met.after.totals.counts) {
+            *count += u64::from(is_change(met, answer) && sections > 0);
         }
     }
 
-    /// Document 01's calls, accepted or refused.
+    /// The calls, accepted or refused.
     pub fn calls(&self) -> u64 {
         self.of.iter().flatten().sum()
     }
@@ -139,6 +192,8 @@ impl Tally {
         }
         let met: Vec<String> = SITUATIONS.iter().zip(self.situations).map(|((name, _), count)| format!("{name}: {count}")).collect();
         lines.push(format!("calls with {}", met.join("; ")));
+        let left: Vec<String> = self.decades.iter().map(u64::to_string).collect();
+        lines.push(format!("changes that left a section under 10 bytes, and in each decade: {}", left.join(" ")));
         lines
     }
 
@@ -153,6 +208,8 @@ impl Tally {
         }
         let never = SITUATIONS.iter().zip(self.situations).filter(|(_, count)| *count == 0);
         missing.extend(never.map(|((name, _), _)| format!("a call with {name}")));
+        let empty = (0..COUNTS).filter(|decade| self.decades[*decade] == 0);
+        missing.extend(empty.map(|decade| format!("a change that left a section in count {decade} of the summary")));
         missing
     }
 }
@@ -166,23 +223,27 @@ mod tests {
 
     #[test]
     fn what_never_came_is_named() {
-        let mut tally = Tally { of: [[1; REFUSALS + 1]; CALLS.len()], situations: [1; SITUATIONS.len()], ..Tally::default() };
+        let (of, situations, decades) = ([[1; REFUSALS + 1]; CALLS.len()], [1; SITUATIONS.len()], [1; COUNTS]);
+        let mut tally = Tally { of, situations, decades, ..Tally::default() };
         assert!(tally.missing().is_empty());
         tally.of[4][6] = 0;
         tally.of[7][ACCEPTED] = 0;
         tally.situations[1] = 0;
-        assert_eq!(tally.missing(), ["extend refused with 6", "read accepted", "a call with P = 1,000"]);
+        tally.decades[18] = 0;
+        let never = ["extend refused with 6", "read accepted", "a call with P = 1,000", "a change that left a section in count 18 of the summary"];
+        assert_eq!(tally.missing(), never);
     }
 
     #[test]
     fn a_call_is_counted_by_its_answer() {
         let mut tally = Tally::default();
-        let met = Met { page: 512, ..Met::default() };
-        tally.count("allocate raw 0", "refused 4; end 0; 0 entries", &met);
-        tally.count("allocate raw 1", "refused 2; end 0; 0 entries", &met);
-        tally.count("allocate", "line 3: wrong count of words", &met);
-        tally.count("show words", "words: 0 0 0", &met);
-        assert_eq!((tally.calls(), tally.answers, tally.words, tally.wrong_lines), (2, 4, 3, 1));
+        let met = |call: &str| Met { call: call.to_string(), page: 512, ..Met::default() };
+        tally.count("refused 4; end 0; 0 entries", &met("allocate"));
+        tally.count("refused 2; end 0; 0 entries", &met("allocate"));
+        tally.count("line 3: wrong count of words", &met("allocate"));
+        tally.count("words: 0 0 0", &met("show"));
+        tally.count("summary: 0", &met("show"));
+        assert_eq!((tally.calls(), tally.answers, tally.words, tally.summaries, tally.wrong_lines), (2, 5, 3, 1, 1));
         assert_eq!((tally.of[2][4], tally.of[2][2], tally.situations[0]), (1, 1, 1));
     }
 
@@ -204,5 +265,33 @@ mod tests {
         assert_eq!(met_by(&read_line(&bytes_of(&persistent)[..29])), ["addresses cut short"]);
         let followed = [bytes_of(&plain), vec![0]].concat();
         assert_eq!(met_by(&read_line(&followed)), ["a message of 29 bytes read", "bytes that follow a message of 29 bytes"]);
+    }
+
+    /// The situations that the last of these lines meets, by their names.
+    fn met_by_the_last(lines: &[&str]) -> Vec<&'static str> {
+        let (last, first) = lines.split_last().expect("a line");
+        let mut machine = Machine::default();
+        first.iter().for_each(|line| drop(machine.answer(line)));
+        let before = machine.model.summary;
+        let answer = machine.answer(last).expect("an answer");
+        let met = Met::between(last, &before, &machine.model);
+        SITUATIONS.iter().filter(|(_, is_met)| is_met(&met, &answer)).map(|(name, _)| *name).filter(|name| !name.contains('=')).collect()
+    }
+
+    #[test]
+    fn a_summary_is_counted_by_what_a_call_makes_of_it() {
+        let first = ["open 512 5120 12", "allocate raw 512", "allocate raw 512"];
+        let then = |lines: &[&'static str]| met_by_the_last(&[&first, lines].concat());
+        assert_eq!(then(&["release 512 512"]), ["an end moved down"]);
+        assert_eq!(then(&["release 0 512", "allocate raw 512"]), ["the largest large section gone"]);
+        assert_eq!(then(&["default 4"]), ["a summary that an opening sets to 0"]);
+        assert_eq!(then(&["default 3"]), ["a summary that a refused opening leaves"]);
+        let other = "words 0 512 6 512 512 3 0 0 0 0 0 0";
+        assert_eq!(then(&[other, "allocate raw 1"]), ["a summary that disagrees, refused"]);
+        assert_eq!(then(&[other, "list large 2"]), ["a summary that disagrees, listed"]);
+        assert_eq!(then(&[other, "fresh"]), ["a summary worked out afresh to another one"]);
+        assert_eq!(then(&["words", "fresh"]), ["a summary that a refused fresh leaves"]);
+        let signed = "summary 0 0 0 0 0 0 0 0 0 0 0 0 0 0 0 0 0 0 0 0 0 0 0 0 0 0 0 0 -5";
+        assert_eq!(then(&[signed, "allocate raw 512"]), ["a signed number that no call leaves, accepted", "an end moved up"]);
     }
 }

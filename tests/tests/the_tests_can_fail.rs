@@ -1,5 +1,5 @@
-//! The tests of the tests: the runner finds nothing between the model and itself, and finds each of document 01's errors, by random
-//! scripts alone, shrunk to few lines.
+//! The tests of the tests: the runner finds nothing between the model and itself, and finds each of document 01's errors and each error in
+//! a summary, by random scripts alone, shrunk to few lines.
 
 use difftest::draw::Draw;
 use difftest::generate::script;

@@ -68,7 +68,7 @@ digits-value (suc k) n h =
     value-snoc 0 (digits 10 k (n / 10)) (glyph (n % 10))
     ∙ rw (digits-value k (n / 10) less, glyph-digit n) (omega (arith, div-add-mod' n 10))
 
-digits-every : (k n : ℕ) → every digitb (digits 10 k n) ≡ true
+pub digits-every : (k n : ℕ) → every digitb (digits 10 k n) ≡ true
 unfolding every
 digits-every zero n = refl
 digits-every (suc k) n =
@@ -77,14 +77,15 @@ digits-every (suc k) n =
     every-snoc digitb (digits 10 k (n / 10)) (glyph (n % 10)) (digits-every k (n / 10))
     (rw (glyph-digit n, le-leb 48 (48 + n % 10) (omega arith), le-leb (48 + n % 10) 57 (omega arith)))
 
-digits-some : (k n : ℕ) → 1 ≤ k → length (digits 10 k n) ≡ 0 → ⊥
-digits-some zero n h e = omega arith
-digits-some (suc k) n h e = omega (arith, e, length-append (digits 10 k (n / 10)) (glyph (n % 10) ∷ []))
+pub digits-some : (k n : ℕ) → 1 ≤ k → 0 < length (digits 10 k n)
+digits-some zero n h = omega arith
+digits-some (suc k) n h = omega (arith, length-append (digits 10 k (n / 10)) (glyph (n % 10) ∷ []))
 
 pub round-trip : RoundTrip
 unfolding numberSaid
 round-trip n k h f =
-    rw (ne-eqb (length (digits 10 k n)) 0 (digits-some k n (f .0)), digits-every k n, digits-value k n (f .1)) (fitting-is n h)
+    let some = digits-some k n (f .0) in
+    rw (ne-eqb (length (digits 10 k n)) 0 (λ e. omega arith), digits-every k n, digits-value k n (f .1)) (fitting-is n h)
 
 -- ---- digits
 

@@ -2,3 +2,4 @@
 pub mod DecimalLaws
 pub mod LaidLaws
 pub mod HexLaws
+pub mod SignedLaws

@@ -1,4 +1,5 @@
--- What the contracts of `figures` cite. Decimal, Hex, Laid; what is proved of them stands at the end of Decimal and of Laid.
+-- What the contracts of `figures` cite. Decimal, Signed, Hex, Laid; what is proved of them stands at the end of Decimal, of Signed and of Laid.
 pub mod Decimal
 pub mod Hex
 pub mod Laid
+pub mod Signed

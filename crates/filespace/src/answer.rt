@@ -1,21 +1,26 @@
 // One line: its call is named, its words are counted, its numbers are read, and then the call is made. What is wrong is said, and changes nothing.
+ghost use mathlib.Core.Path.{_≡_};
 ghost use Prim.Native.Nat.{_≤_};
 ghost use lib.ListN.{length};
-ghost use Rattle.filespace.specs.Lent.{lineBytes, tableWords};
+ghost use Rattle.filespace.specs.Lent.{lineBytes, tableWords, Within};
 use crate::TABLE_WORDS;
 use crate::calls;
 use crate::calls::Call;
+use crate::carry::Run;
 use crate::give;
 use crate::info;
-use crate::map;
-use crate::report;
-use crate::report::Run;
-use crate::tables;
+use crate::summary;
+use crate::summary::TOTALS;
 use figures::numbers::Number;
+use figures::signed::Signed;
+use say::map;
+use say::report;
+use say::sheet;
+use say::tables;
 
-// The numbers of a line.
+// The numbers of a line: read up to a place, or why not.
 pub enum Numbers {
-    Read,
+    To(usize),
     TooLarge,
     NoNumber,
 }
@@ -34,6 +39,7 @@ fn word_number(call: Call, is_first: bool, word: &[u8]) -> Number {
 // The numbers of the first `count` words from `from` on.
 fn read_numbers(call: Call, line: &[u8], from: usize, count: usize, args: &mut [u64]) -> Numbers
     requires { ⌜ (from ≤ length (now line)) × (count ≤ length (now args)) ⌝ }
+    ensures { λ r. ⌜ Within r (length (now (line .entry))) ⌝ }
 {
     let mut at = from;
     let mut i = 0;
@@ -55,7 +61,7 @@ fn read_numbers(call: Call, line: &[u8], from: usize, count: usize, args: &mut [
         at = end;
         i += 1;
     }
-    Numbers::Read
+    Numbers::To(at)
 }
 
 // The call on its numbers.
@@ -102,11 +108,45 @@ fn answer_numbers(
         return run;
     }
     match read_numbers(call, line, from, count, &mut args) {
-        Numbers::Read => {
+        Numbers::To(_) => {
             return play(run, call, count, &args, table);
         }
-        Numbers::TooLarge => report::wrong(run.line, b"number too large"),
-        Numbers::NoNumber => report::wrong(run.line, b"not a number"),
+        Numbers::TooLarge => report::too_large(run.line),
+        Numbers::NoNumber => report::no_number(run.line),
+    }
+    run
+}
+
+// The last number of a summary, behind its totals.
+fn answer_moved(run: Run, totals: &[u64; TOTALS], line: &[u8], from: usize) -> Run
+    requires { ⌜ from ≤ length (now line) ⌝ }
+    ensures { λ r. ⌜ r .used ≡ run .used ⌝ }
+{
+    let word = script::words::next_word(line, from);
+    let start = word.from;
+    let end = word.to;
+    match figures::signed::signed_of(&line[start..end]) {
+        Signed::Is(moved) => {
+            return summary::set(run, totals, moved);
+        }
+        Signed::TooLarge => report::too_large(run.line),
+        Signed::NoNumber => report::no_number(run.line),
+    }
+    run
+}
+
+// The numbers of a summary.
+fn answer_summary(run: Run, line: &[u8], from: usize) -> Run
+    requires { ⌜ from ≤ length (now line) ⌝ }
+    ensures { λ r. ⌜ r .used ≡ run .used ⌝ }
+{
+    let mut totals = [0u64; TOTALS];
+    match read_numbers(Call::Summary, line, from, TOTALS, &mut totals) {
+        Numbers::To(end) => {
+            return answer_moved(run, &totals, line, end);
+        }
+        Numbers::TooLarge => report::too_large(run.line),
+        Numbers::NoNumber => report::no_number(run.line),
     }
     run
 }
@@ -119,7 +159,11 @@ fn show(run: Run, line: &[u8], from: usize, table: &[u64])
     let start = word.from;
     let end = word.to;
     if script::words::is_text(&line[start..end], b"words") {
-        tables::show_words(run, table);
+        tables::show_words(run.used, table);
+        return;
+    }
+    if script::words::is_text(&line[start..end], b"summary") {
+        sheet::numbers(run.summary);
         return;
     }
     report::wrong(run.line, b"no call");
@@ -139,8 +183,9 @@ fn look(run: Run, call: Call, line: &[u8], from: usize, table: &[u64])
     requires { ⌜ (run .used ≤ length (now table)) × ((from ≤ length (now line)) × (length (now line) ≤ lineBytes)) ⌝ }
 {
     match call {
-        Call::Table => tables::table(run, table),
-        Call::Map => map::map(run, table),
+        Call::Table => tables::table(run.space, run.used, table),
+        Call::Map => map::map(run.space, run.used, table),
+        Call::Sheet => sheet::sheet(run.summary),
         Call::Show => show(run, line, from, table),
         Call::Read => read(run.line, line, from),
         _ => report::wrong(run.line, b"no call"),
@@ -166,6 +211,12 @@ pub fn answer(run: Run, line: &[u8], table: &mut [u64; TABLE_WORDS]) -> Run
     if calls::reads_numbers(call) {
         return answer_numbers(run, call, line, end, count, table);
     }
-    look(run, call, line, end, table);
-    run
+    match call {
+        Call::Summary => answer_summary(run, line, end),
+        Call::Fresh => summary::fresh(run, table),
+        _ => {
+            look(run, call, line, end, table);
+            run
+        }
+    }
 }

@@ -17,6 +17,9 @@ pub enum Call {
     Show,
     Read,
     Write,
+    Summary,
+    Fresh,
+    Sheet,
     NoCall,
 }
 
@@ -39,8 +42,8 @@ fn place_in(names: &[u8], count: usize, word: &[u8]) -> usize {
 
 pub fn call_of(word: &[u8]) -> Call {
     let names: &[u8] =
-        b"open default allocate release extend shorten list state words table map show read write";
-    match place_in(names, 14, word) {
+        b"open default allocate release extend shorten list state words table map show read write summary fresh sheet";
+    match place_in(names, 17, word) {
         0 => Call::Open,
         1 => Call::Default,
         2 => Call::Allocate,
@@ -55,6 +58,9 @@ pub fn call_of(word: &[u8]) -> Call {
         11 => Call::Show,
         12 => Call::Read,
         13 => Call::Write,
+        14 => Call::Summary,
+        15 => Call::Fresh,
+        16 => Call::Sheet,
         _ => Call::NoCall,
     }
 }
@@ -76,6 +82,9 @@ pub fn takes(call: Call, count: usize) -> bool {
         Call::Show => count == 1,
         Call::Read => count <= 1,
         Call::Write => count == 19,
+        Call::Summary => count == 29,
+        Call::Fresh => count == 0,
+        Call::Sheet => count == 0,
         Call::NoCall => true,
     }
 }
@@ -99,10 +108,11 @@ pub fn named(call: Call, word: &[u8]) -> u64 {
     0
 }
 
-// Whether the words of a call are numbers.
+// Whether the words of a call are numbers, none of them signed, or names of numbers.
 pub fn reads_numbers(call: Call) -> bool {
     match call {
         Call::Table | Call::Map | Call::Show | Call::Read | Call::NoCall => false,
+        Call::Summary | Call::Fresh | Call::Sheet => false,
         _ => true,
     }
 }

@@ -1,4 +1,4 @@
-// The calls on a space, each answered in one line.
+// The calls on a space, each answered in one line. All but the listing get the run's summary, and leave it to the next call.
 ghost use mathlib.Core.Path.{_≡_};
 ghost use Prim.Native.Nat.{_≤_};
 ghost use lib.ListN.{length};
@@ -7,14 +7,18 @@ use crate::MOST_ENTRIES;
 use crate::MOST_ROOM;
 use crate::TABLE_WORDS;
 use crate::calls::Call;
-use crate::report;
-use crate::report::Run;
-use crate::say;
+use crate::carry::Run;
+use by_value::Change;
+use by_value::Named;
+use by_value::Pages;
+use by_value::Request;
+use own_summary::OpenedOn;
+use own_summary::ResizedOn;
 use pieces::ENTRY_WORDS;
+use say::report;
 use sections::PAIR_WORDS;
 use space::Space;
 use space::answers::DONE;
-use space::answers::Opened;
 use space::answers::address_of;
 use space::answers::allocate_number;
 use space::answers::count_of;
@@ -22,6 +26,7 @@ use space::answers::list_number;
 use space::answers::open_number;
 use space::answers::release_number;
 use space::answers::resize_number;
+use totals::Summary;
 
 // The words of a table that is lent anew.
 fn clear(table: &mut [u64]) {
@@ -32,19 +37,29 @@ fn clear(table: &mut [u64]) {
     }
 }
 
-// An opening is answered.
-fn told_opened(opened: Opened) -> Space {
-    let space = opened.space;
-    let answer = opened.answer;
+// An opening is answered, and the next call gets what it left.
+fn told_opened(run: Run, used: usize, r: OpenedOn) -> Run
+    ensures { λ r. ⌜ r .used ≡ used ⌝ }
+{
+    let done = r.opened;
+    let space = done.space;
+    let answer = done.answer;
+    let summary = r.summary;
     report::told(space, open_number(answer));
-    space
+    run.lent(space, used).after(space, summary)
 }
 
 // The opening that the call is.
-fn opened(call: Call, args: &[u64; TABLE_WORDS], table: &mut [u64]) -> Space {
+fn opened(call: Call, args: &[u64; TABLE_WORDS], table: &mut [u64], given: Summary) -> OpenedOn {
     match call {
-        Call::Default => told_opened(Space::open_default(table)),
-        _ => told_opened(Space::open(args[0], args[1], table)),
+        Call::Default => own_summary::open_default(table, given),
+        _ => {
+            let pages = Pages {
+                page: args[0],
+                limit: args[1],
+            };
+            own_summary::open(pages, table, given)
+        }
     }
 }
 
@@ -67,40 +82,84 @@ pub fn open(run: Run, call: Call, args: &[u64; TABLE_WORDS], table: &mut [u64]) 
     }
     clear(table);
     let used = entries as usize * ENTRY_WORDS;
-    let space = opened(call, args, &mut table[..used]);
-    run.lent(space, used)
+    let given = run.summary;
+    let r = opened(call, args, &mut table[..used], given);
+    told_opened(run, used, r)
 }
 
-// The call, on the lent table.
-fn ask(space: Space, call: Call, args: &[u64; TABLE_WORDS], table: &mut [u64]) -> Space {
+// The piece that a call names, and by how much it changes.
+fn change_of(args: &[u64; TABLE_WORDS]) -> Change {
+    Change {
+        address: args[0],
+        size: args[1],
+        by: args[2],
+    }
+}
+
+fn allocate(run: Run, args: &[u64; TABLE_WORDS], table: &mut [u64]) -> Run
+    ensures { λ r. ⌜ r .used ≡ run .used ⌝ }
+{
+    let request = Request {
+        code: args[0],
+        size: args[1],
+    };
+    let space = run.space;
+    let given = run.summary;
+    let r = own_summary::allocate(space, table, given, request);
+    let done = r.allocated;
+    let now = done.space;
+    let answer = done.answer;
+    let summary = r.summary;
+    report::placed(now, allocate_number(answer), address_of(answer));
+    run.after(now, summary)
+}
+
+fn release(run: Run, args: &[u64; TABLE_WORDS], table: &mut [u64]) -> Run
+    ensures { λ r. ⌜ r .used ≡ run .used ⌝ }
+{
+    let named = Named {
+        address: args[0],
+        size: args[1],
+    };
+    let space = run.space;
+    let given = run.summary;
+    let r = own_summary::release(space, table, given, named);
+    let done = r.released;
+    let now = done.space;
+    let answer = done.answer;
+    let summary = r.summary;
+    report::told(now, release_number(answer));
+    run.after(now, summary)
+}
+
+// An extend or a shorten is answered, and the next call gets what it left.
+fn told_resized(run: Run, r: ResizedOn) -> Run
+    ensures { λ r. ⌜ r .used ≡ run .used ⌝ }
+{
+    let done = r.resized;
+    let now = done.space;
+    let answer = done.answer;
+    let summary = r.summary;
+    report::told(now, resize_number(answer));
+    run.after(now, summary)
+}
+
+// The call, on the lent table with the summary.
+fn ask(run: Run, call: Call, args: &[u64; TABLE_WORDS], table: &mut [u64]) -> Run
+    ensures { λ r. ⌜ r .used ≡ run .used ⌝ }
+{
+    let space = run.space;
+    let given = run.summary;
     match call {
-        Call::Allocate => {
-            let r = space.allocate(table, args[0], args[1]);
-            let now = r.space;
-            let answer = r.answer;
-            report::placed(now, allocate_number(answer), address_of(answer));
-            now
-        }
-        Call::Release => {
-            let r = space.release(table, args[0], args[1]);
-            let now = r.space;
-            let answer = r.answer;
-            report::told(now, release_number(answer));
-            now
-        }
+        Call::Allocate => allocate(run, args, table),
+        Call::Release => release(run, args, table),
         Call::Extend => {
-            let r = space.extend(table, args[0], args[1], args[2]);
-            let now = r.space;
-            let answer = r.answer;
-            report::told(now, resize_number(answer));
-            now
+            let r = own_summary::extend(space, table, given, change_of(args));
+            told_resized(run, r)
         }
         _ => {
-            let r = space.shorten(table, args[0], args[1], args[2]);
-            let now = r.space;
-            let answer = r.answer;
-            report::told(now, resize_number(answer));
-            now
+            let r = own_summary::shorten(space, table, given, change_of(args));
+            told_resized(run, r)
         }
     }
 }
@@ -110,9 +169,7 @@ pub fn change(run: Run, call: Call, args: &[u64; TABLE_WORDS], table: &mut [u64]
     ensures { λ r. ⌜ r .used ≤ tableWords ⌝ }
 {
     let used = run.used;
-    let before = run.space;
-    let space = ask(before, call, args, &mut table[..used]);
-    run.lent(space, used)
+    ask(run, call, args, &mut table[..used])
 }
 
 // The sections that a listing wrote: address and size of each.
@@ -163,7 +220,7 @@ pub fn state(run: Run, args: &[u64; TABLE_WORDS]) -> Run
     run.lent(space, run.used)
 }
 
-fn copy(from: &[u64], to: &mut [u64])
+pub fn copy(from: &[u64], to: &mut [u64])
     requires { ⌜ length (now from) ≤ length (now to) ⌝ }
 {
     let mut i = 0;

@@ -6,10 +6,9 @@ ghost use lib.ListN.{length};
 ghost use Rattle.filespace.specs.Lent.{WriteFits, lineBytes};
 use crate::MOST_ROOM;
 use crate::TABLE_WORDS;
-use crate::report;
-use crate::say;
 use message::Answer;
 use message::Fields;
+use say::report;
 use space::answers::DONE;
 
 const TYPES: usize = 6;

