@@ -1,6 +1,9 @@
-// The benchmark's workload through the library. Standard input has three numbers: about how many entries the table is to have, for how many it
-// has room, and how many turns to make. A turn releases a live piece, allocates another one, shortens a third and extends that again; 7 of 8
-// requests are small. bench/space.c is the same workload through a plain C version, and must write the same.
+// The benchmark's workload through the library. Standard input has four numbers: about how many entries the table is to have, for how many it
+// has room, how many turns to make, and 1 if the calls of the turns are to take a summary. A turn releases a live piece, allocates another one,
+// shortens a third and extends that again; 7 of 8 requests are small. bench/space.c is the same workload through a plain C version, and must
+// write the same.
+mod with;
+
 ghost use Prim.Native.Nat.{_*_, _≤_};
 ghost use mathlib.Core.Path.{_≡_};
 ghost use lib.ListN.{length};
@@ -31,22 +34,22 @@ const FIRST_DRAW: u64 = 88172645463325252;
 
 // The space, the last number drawn, and what is kept of the answers: a checksum, how many calls were accepted, and the sum of the counts of
 // entries.
-struct Run {
-    space: Space,
-    draw: u64,
-    sum: u64,
-    accepted: u64,
-    entries: u64,
+pub struct Run {
+    pub space: Space,
+    pub draw: u64,
+    pub sum: u64,
+    pub accepted: u64,
+    pub entries: u64,
 }
 
 // A live piece's name.
-enum Named {
+pub enum Found {
     Live(u64, u64),
     Nothing,
 }
 
 // The number drawn after another (xorshift).
-fn drawn(x: u64) -> u64 {
+pub fn drawn(x: u64) -> u64 {
     let a = x ^ (x << 13);
     let b = a ^ (a >> 7);
     b ^ (b << 17)
@@ -58,7 +61,7 @@ fn summed(sum: u64, x: u64) -> u64 {
 }
 
 // A request's type: metadata or raw.
-fn type_of(draw: u64) -> u64 {
+pub fn type_of(draw: u64) -> u64 {
     if draw & 8 == 0 {
         return space::place::METADATA;
     }
@@ -66,7 +69,7 @@ fn type_of(draw: u64) -> u64 {
 }
 
 // A request's size: of 8 requests 7 are small, and one has one to four pages.
-fn size_of(draw: u64) -> u64 {
+pub fn size_of(draw: u64) -> u64 {
     let bits = draw >> 8;
     if draw & 7 == 0 {
         return PAGE + bits % (3 * PAGE);
@@ -83,7 +86,7 @@ fn answered(number: u64, given: u64) -> u64 {
 }
 
 // What is kept behind a call that handed back this space with this number, and gave this where it was accepted.
-fn noted(run: Run, space: Space, draw: u64, number: u64, given: u64) -> Run {
+pub fn noted(run: Run, space: Space, draw: u64, number: u64, given: u64) -> Run {
     let mut accepted = run.accepted;
     if number == DONE {
         accepted = wrapping_add_u64(accepted, 1);
@@ -108,7 +111,7 @@ fn allocate(table: &mut [u64], run: Run) -> Run {
 }
 
 // The first live piece from entry i on, of n.
-fn live_from(table: &[u64], i: usize, n: usize) -> Named
+fn live_from(table: &[u64], i: usize, n: usize) -> Found
     requires { ⌜ n * entryWords ≤ length (now table) ⌝ }
 {
     let mut at = i;
@@ -116,30 +119,30 @@ fn live_from(table: &[u64], i: usize, n: usize) -> Named
         let piece = pieces::piece_at(table, at);
         let status = piece.status;
         if !pieces::is_free(status) {
-            return Named::Live(piece.address, piece.size);
+            return Found::Live(piece.address, piece.size);
         }
         at = at + 1;
     }
-    Named::Nothing
+    Found::Nothing
 }
 
 // A live piece, found from any entry on, or from the first.
-fn any_live(table: &[u64], space: Space, draw: u64) -> Named {
+pub fn any_live(table: &[u64], space: Space, draw: u64) -> Found {
     let n = pieces::entries_within(space.count, table.len());
     if n == 0 {
-        return Named::Nothing;
+        return Found::Nothing;
     }
-    let named = live_from(table, (draw >> 8) as usize % n, n);
-    match named {
-        Named::Live(a, z) => Named::Live(a, z),
-        Named::Nothing => live_from(table, 0, n),
+    let found = live_from(table, (draw >> 8) as usize % n, n);
+    match found {
+        Found::Live(a, z) => Found::Live(a, z),
+        Found::Nothing => live_from(table, 0, n),
     }
 }
 
 fn release(table: &mut [u64], run: Run) -> Run {
     let draw = drawn(run.draw);
     let space = run.space;
-    let Named::Live(address, size) = any_live(table, space, draw) else {
+    let Found::Live(address, size) = any_live(table, space, draw) else {
         return run;
     };
     let done = space.release(table, address, size);
@@ -149,7 +152,7 @@ fn release(table: &mut [u64], run: Run) -> Run {
 }
 
 // By how many bytes a piece is shortened, and then extended again.
-fn change_of(draw: u64) -> u64 {
+pub fn change_of(draw: u64) -> u64 {
     1 + (draw >> 32) % LARGEST_CHANGE
 }
 
@@ -171,7 +174,7 @@ fn there_and_back(table: &mut [u64], run: Run, draw: u64, address: u64, size: u6
 fn resize(table: &mut [u64], run: Run) -> Run {
     let draw = drawn(run.draw);
     let space = run.space;
-    let Named::Live(address, size) = any_live(table, space, draw) else {
+    let Found::Live(address, size) = any_live(table, space, draw) else {
         return run;
     };
     there_and_back(table, run, draw, address, size, change_of(draw))
@@ -222,7 +225,7 @@ fn counted_anew(run: Run) -> Run {
     }
 }
 
-fn worked(table: &mut [u64], entries: u64, turns: u64) -> Run {
+fn worked(table: &mut [u64], wish: Wish) -> Run {
     let opened = Space::open(PAGE, LIMIT, table);
     let space = opened.space;
     let start = Run {
@@ -232,8 +235,11 @@ fn worked(table: &mut [u64], entries: u64, turns: u64) -> Run {
         accepted: 0,
         entries: 0,
     };
-    let ready = filled(table, start, entries);
-    turned(table, counted_anew(ready), turns)
+    let ready = filled(table, start, wish.entries);
+    if wish.summary == 1 {
+        return with::turned(table, counted_anew(ready), wish.turns);
+    }
+    turned(table, counted_anew(ready), wish.turns)
 }
 
 // A number with one digit more, as long as it stays small.
@@ -255,6 +261,7 @@ struct Wish {
     entries: u64,
     capacity: u64,
     turns: u64,
+    summary: u64,
 }
 
 // A wish with one byte more read: a space behind a number starts the next one.
@@ -269,15 +276,19 @@ fn wished(wish: Wish, which: u64, byte: u8) -> Wish {
     if which == 2 {
         next.turns = with_digit(next.turns, byte);
     }
+    if which == 3 {
+        next.summary = with_digit(next.summary, byte);
+    }
     next
 }
 
-// The three numbers of the text.
+// The four numbers of the text.
 fn asked(text: &[u8]) -> Wish {
     let mut wish = Wish {
         entries: 0,
         capacity: 0,
         turns: 0,
+        summary: 0,
     };
     let mut which: u64 = 0;
     let mut i: usize = 0;
@@ -321,7 +332,7 @@ fn main() {
     let wish = asked(&text[..got]);
     let mut table = zero_words();
     let words = words_for(wish.capacity);
-    let run = worked(&mut table[..words], wish.entries, wish.turns);
+    let run = worked(&mut table[..words], wish);
     let space = run.space;
     say(b"checksum ", run.sum);
     say(b"accepted ", run.accepted);
