@@ -174,7 +174,7 @@ pub fn open(pages: Pages, table: &mut [u64], given: Summary) -> OpenedWith
     with_none(Space::open(pages.page, pages.limit, table), given)
 }
 
-// Pages of 4,096 bytes, and the largest limit.
+// With the page size and the limit of `Space::open_default`.
 pub fn open_default(table: &mut [u64], given: Summary) -> OpenedWith
     ensures { λ r. ⌜ told (openSaid (r .opened) (now (table .exit))) (kept (r .counted) given (r .summary))
         ≡ openedWith defaultPage defaultLimit (now (table .entry)) given ⌝ }

@@ -57,7 +57,7 @@ pub fn open(pages: Pages, table: &mut [u64], given: Summary) -> OpenedOn
     }
 }
 
-// Pages of 4,096 bytes, and the largest limit.
+// With the page size and the limit of `Space::open_default`.
 pub fn open_default(table: &mut [u64], given: Summary) -> OpenedOn
     ensures { λ r. ⌜ told (openSaid (r .opened) (now (table .exit))) (r .summary)
         ≡ openedWith defaultPage defaultLimit (now (table .entry)) given ⌝ }

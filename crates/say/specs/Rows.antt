@@ -4,8 +4,10 @@
 --
 -- Assumes nothing.
 use Prim.Native.Nat.{ℕ, _<_, _≤_}
+use Rattle.pages.specs.Pages.{largestPage}
+use Rattle.table.specs.Sound.{largestLimit}
 
 pub record Rows (page end : ℕ) : Type 0 where
   pub some : 0 < page
-  pub page-most : page ≤ 1073741824
-  pub end-most : end ≤ 4611686018427387904
+  pub page-most : page ≤ largestPage
+  pub end-most : end ≤ largestLimit

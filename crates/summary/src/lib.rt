@@ -33,7 +33,7 @@ pub fn open(pages: Pages, table: &mut [u64], summary: &mut Summary) -> Opened
     done.opened
 }
 
-// Pages of 4,096 bytes, and the largest limit.
+// With the page size and the limit of `Space::open_default`.
 pub fn open_default(table: &mut [u64], summary: &mut Summary) -> Opened
     ensures { λ r. ⌜ told (openSaid r (now (table .exit))) (now (summary .exit))
         ≡ openedWith defaultPage defaultLimit (now (table .entry)) (now (summary .entry)) ⌝ }
