@@ -8,12 +8,16 @@ use crate::give;
 use by_value::fresh_number;
 use say::report;
 use totals::DECADES;
+use totals::MANAGERS;
 use totals::Summary;
 
-// The numbers of a summary but the signed one: number, bytes and largest of each manager, and from a place on the counts by decades.
-pub const TOTALS: usize = 28;
+// Of each manager the number of its sections, their bytes and the largest.
+const MANAGER_NUMBERS: usize = 3;
 
-const COUNTS_AT: usize = 9;
+// The numbers of a summary but the signed one: those of each manager, and from a place on the counts by decades.
+const COUNTS_AT: usize = MANAGER_NUMBERS * MANAGERS;
+
+pub const TOTALS: usize = COUNTS_AT + DECADES;
 
 fn summary_of(totals: &[u64; TOTALS], moved: i64) -> Summary {
     let mut decades = [0u64; DECADES];
