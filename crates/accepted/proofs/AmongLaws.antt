@@ -3,14 +3,11 @@
 --   Among n ps                one of the pieces ps has this name
 --   mem-lives, lives-entry    a live entry is a live piece; a live piece is an entry, and live
 --   mem-remove, among-remove  another piece's removal leaves it
---   entry-number              an entry has a number
 --
 -- Assumes nothing.
-use Prim.Native.Nat.{ℕ, suc}
 use mathlib.Core.Bool.{Bool, true, false, cond}
 use mathlib.Core.List.{List, [], _∷_, List·Memᴰ, List·Memᴰ·head, List·Memᴰ·tail}
 use mathlib.Core.Path.{_≡_, refl, sym, ap, _∙_}
-use Rattle.pieces.specs.Pieces.{EntryIs, entry-here, entry-later}
 use Rattle.pieces.specs.declared.Class.{Class}
 use Rattle.pieces.specs.declared.Piece.{Piece}
 use Rattle.pieces.specs.declared.Status.the-variants.{Live, Free}
@@ -81,7 +78,3 @@ among-remove n m {ps} other h = go (names m (h .it)) refl
     go : (t : Bool) → names m (h .it) ≡ t → Among n (remove m ps)
     go true f = absurd (other (one-name n m (h .it) (h .named) f))
     go false f = record { it = h .it; among = mem-remove m f (h .among); named = h .named }
-
-pub entry-number : {es : List Piece} {x : Piece} → List·Memᴰ x es → (i : ℕ) × EntryIs es i x
-entry-number {x = x} (List·Memᴰ·head {x = y} {xs = es} e) = (0, rw e entry-here)
-entry-number (List·Memᴰ·tail h) = let r = entry-number h in (suc (r .0), entry-later (r .1))

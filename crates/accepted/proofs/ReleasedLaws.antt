@@ -9,13 +9,14 @@ use mathlib.Core.List.{List}
 use mathlib.Core.Path.{_≡_, refl, sym, _∙_}
 use native.Mathlib.Omega.{arith}
 use lib.ListN.{length}
-use Rattle.accepted.proofs.AmongLaws.{Among, lives-entry, entry-number}
+use Rattle.accepted.proofs.AmongLaws.{Among, lives-entry}
 use Rattle.accepted.proofs.KeptLaws.{tabled, sound-count}
 use Rattle.find.proofs.FindLaws.{found-missing}
 use Rattle.find.specs.Find.{findLive}
 use Rattle.find.specs.declared.Found.the-variants as finding
 use Rattle.find.specs.declared.Found.{Found}
 use Rattle.pages.proofs.PageLaws.{page-pos}
+use Rattle.pieces.proofs.PieceLaws.{entry-number}
 use Rattle.pieces.specs.declared.Piece.{Piece}
 use Rattle.rules.proofs.CountLaws.{release-count}
 use Rattle.rules.proofs.RemoveLaws.{named-address, named-size}

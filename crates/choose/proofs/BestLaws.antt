@@ -1,6 +1,6 @@
 -- The walk finds the best place: the statements `BestPlace`, `SmallPlace` and `LargePlace` of specs/Choose.antt.
 --
--- In this order: entries that tile lie in order, and an address names one of them; two best places are one;
+-- In this order: of entries that tile an address names one; two best places are one;
 -- what the walk holds is kept or beaten, and comes from an entry that fits, as `best-found`; `best-place`; what fits, spelled out; `small-place` and
 -- `large-place`.
 --
@@ -24,6 +24,7 @@ use Rattle.pieces.specs.declared.Piece.{Piece}
 use Rattle.pieces.specs.Pieces.{piece, behind, freeOf, Small, EntryIs, entry-here, entry-later}
 use Rattle.pieces.proofs.PieceLaws.{entry-among}
 use Rattle.pieces.proofs.PieceLaws.{same-class, class-same}
+use Rattle.table.proofs.TilingLaws.{entry-above}
 use Rattle.table.specs.Sound.{Tiles, tile}
 use Rattle.choose.specs.declared.Chosen.{Chosen}
 use Rattle.choose.specs.declared.Chosen.the-variants.{At, Nothing}
@@ -32,10 +33,6 @@ use Rattle.choose.specs.Choose.{Best, OneBest, NoneEmpty, BestPlace, Fit
 use Rattle.choose.proofs.ChooseLaws.{room-small}
 
 -- ---- entries that tile
-
-entry-above : {E a : ℕ} {es : List Piece} {i : ℕ} {x : Piece} → Tiles E a es → EntryIs es i x → a ≤ x .address
-entry-above (tile r) entry-here = omega arith
-entry-above (tile r) (entry-later e) = omega (arith, entry-above r e)
 
 one-entry : {E a : ℕ} {es : List Piece} {i j : ℕ} {x y : Piece} → NoneEmpty es → Tiles E a es → EntryIs es i x → EntryIs es j y
     → x .address ≡ y .address → At i x ≡ At j y

@@ -14,7 +14,6 @@ use mathlib.Core.Path.{_≡_, refl, sym, ap, _∙_}
 use lib.Dec.{eqb}
 use lib.ListN.{length}
 use borrow.Author.Tests.{lt-ltb, eq-eqb, ltb-true, eqb-true}
-use Rattle.accepted.proofs.AmongLaws.{entry-number}
 use Rattle.accepted.proofs.PlaceRule.{place-found}
 use Rattle.demands.proofs.ConditionLaws.{type-test, test-type, manager-test, test-manager, zero-test, test-zero}
 use Rattle.demands.proofs.ConditionLaws.{chosen, beyond-end, end-beyond, there, there-is, placing-it, too-many}
@@ -29,7 +28,7 @@ use Rattle.find.specs.declared.Found.the-variants.{At, Missing}
 use Rattle.find.specs.declared.Found.{Found}
 use Rattle.pages.proofs.Numbers.{not-both}
 use Rattle.pages.specs.Pages.{up}
-use Rattle.pieces.proofs.PieceLaws.{entry-among}
+use Rattle.pieces.proofs.PieceLaws.{entry-among, entry-number}
 use Rattle.pieces.specs.Pieces.{classOf}
 use Rattle.pieces.specs.declared.Class.{Class}
 use Rattle.pieces.specs.declared.Piece.{Piece}

@@ -126,6 +126,11 @@ pub entry-among : {es : List Piece} {i : ℕ} {x : Piece} → EntryIs es i x →
 entry-among entry-here = List·Memᴰ·head refl
 entry-among (entry-later e) = List·Memᴰ·tail (entry-among e)
 
+-- and an entry among them has a number
+pub entry-number : {es : List Piece} {x : Piece} → List·Memᴰ x es → (i : ℕ) × EntryIs es i x
+entry-number {x = x} (List·Memᴰ·head {x = y} {xs = es} e) = (0, rw e entry-here)
+entry-number (List·Memᴰ·tail h) = let r = entry-number h in (suc (r .0), entry-later (r .1))
+
 pub entry-split : {es : List Piece} {i : ℕ} {x : Piece} → EntryIs es i x → es ≡ take i es ++ (x ∷ drop (suc i) es)
 entry-split entry-here = refl
 entry-split (entry-later {y = y} e) = ap (λ (l : List Piece). y ∷ l) (entry-split e)

@@ -3,6 +3,7 @@
 --   covered       a byte from the first entry's start to the end lies in one of the entries, and its place among them
 --   in-order      an entry further on starts where an earlier one ends, or behind it
 --   below-end     no entry reaches beyond the end; `mem-below` of an entry by itself
+--   entry-above   no entry starts before the first
 --   alone         no other entry holds a byte of an entry
 --
 -- The same of the first n entries of words w, by `entryAt`:
@@ -20,7 +21,7 @@ use native.Mathlib.Nat.{zero-add}
 use native.Mathlib.Omega.{arith}
 use lib.ListN.{length, getD}
 use Rattle.pages.proofs.Numbers.{split}
-use Rattle.pieces.specs.Pieces.{piece, behind}
+use Rattle.pieces.specs.Pieces.{piece, behind, EntryIs, entry-here, entry-later}
 use Rattle.pieces.proofs.WordLaws.{length-entries}
 use Rattle.pieces.specs.Words.{entryAt, entries, EndsFit}
 use Rattle.pieces.specs.declared.Class.the-variants.{Large}
@@ -46,6 +47,10 @@ tiles-from (tile r) = omega (arith, tiles-from r)
 pub mem-below : {E a : ℕ} {es : List Piece} {x : Piece} → Tiles E a es → List·Memᴰ x es → behind x ≤ E
 mem-below (tile {a = a} {z = z} t) (List·Memᴰ·head e) = omega (arith, tiles-from t, ap behind e)
 mem-below (tile t) (List·Memᴰ·tail h) = mem-below t h
+
+pub entry-above : {E a : ℕ} {es : List Piece} {i : ℕ} {x : Piece} → Tiles E a es → EntryIs es i x → a ≤ x .address
+entry-above (tile r) entry-here = omega arith
+entry-above (tile r) (entry-later e) = omega (arith, entry-above r e)
 
 pub record Covered (es : List Piece) (v : ℕ) : Type 0 where
   pub place : ℕ
