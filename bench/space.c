@@ -5,8 +5,9 @@
 //   best          the best fit among the free entries of a kind
 //   free_entry    an entry is freed: merged with its neighbours, its emptied page handed over, the file's end cut
 //   splice        entries replaced in place
+//   misnamed      what is wrong with a name, where no live entry has it; the calls that find the named entry never come here
 //   space_allocate, space_release      the calls, on a struct and a lent table
-//   space_extend, space_shorten        two more, which came later; nothing above them has changed since
+//   space_extend, space_shorten        two more, which came later; nothing above them has changed since but what a wrong name is told
 //
 // It uses the C library for `read` and `write` alone, and no header, since the kit's compiler has none. Not here: listing, which the workload
 // has not.
@@ -22,7 +23,8 @@ long write(int fd, const void *from, size_t bytes);
 enum { ENTRY_WORDS = 3, MOST_WORDS = 1024 * ENTRY_WORDS, LEAST_WORDS = 4 * ENTRY_WORDS };
 enum { METADATA = 1, RAW = 2 };
 enum { LIVE_LARGE = 3, FREE_METADATA = 4, FREE_RAW = 5, FREE_LARGE = 6, TO_FREE = 3 };
-enum { NOT_SOUND = 2, UNKNOWN_TYPE = 3, NO_BYTES = 4, BEYOND_LIMIT = 5, TABLE_FULL = 6, NOT_LIVE = 7, NO_ROOM_BEHIND = 8, TOO_LITTLE_LEFT = 9 };
+enum { NOT_SOUND = 2, UNKNOWN_TYPE = 3, NO_BYTES = 4, BEYOND_LIMIT = 5, TABLE_FULL = 6, NO_ROOM_BEHIND = 8, TOO_LITTLE_LEFT = 9 };
+enum { BEYOND_END = 13, IN_FREE = 14, INSIDE_LIVE = 15, OTHER_SIZE = 16, LARGEST_REFUSAL = OTHER_SIZE };
 
 static const uint64_t LEAST_PAGE = 512, LARGEST_PAGE = 1u << 30, LARGEST_LIMIT = (uint64_t)1 << 62;
 
@@ -258,6 +260,20 @@ static void free_entry(struct space *s, uint64_t *table, size_t i) {
     splice(s, table, from, to, &e, e.size > 0 ? 1 : 0);
 }
 
+// Why no live entry has this address and the size that was named with it, by the entry in which the address lies: entries lie in the order of
+// their addresses, so it is the first that ends behind the address.
+static int misnamed(const struct space *s, const uint64_t *table, uint64_t address) {
+    for (size_t i = 0; i < s->count; i++) {
+        struct entry e = entry_at(table, i);
+        if (address >= e.address + e.size)
+            continue;
+        if (!is_live(e.kind))
+            return IN_FREE;
+        return address == e.address ? OTHER_SIZE : INSIDE_LIVE;
+    }
+    return BEYOND_END;
+}
+
 int space_release(struct space *s, uint64_t *table, size_t words, uint64_t address, uint64_t size) {
     if (!is_sound(s, table, words))
         return NOT_SOUND;
@@ -268,7 +284,7 @@ int space_release(struct space *s, uint64_t *table, size_t words, uint64_t addre
             return 0;
         }
     }
-    return NOT_LIVE;
+    return misnamed(s, table, address);
 }
 
 // The live entry with this address and size; the count where there is none.
@@ -299,7 +315,7 @@ int space_extend(struct space *s, uint64_t *table, size_t words, uint64_t addres
         return NO_BYTES;
     size_t i = named(s, table, address, size);
     if (i == s->count)
-        return NOT_LIVE;
+        return misnamed(s, table, address);
     struct entry e = entry_at(table, i);
     bool large = e.kind == LIVE_LARGE;
     uint64_t behind = address + size;
@@ -326,7 +342,7 @@ int space_shorten(struct space *s, uint64_t *table, size_t words, uint64_t addre
         return NO_BYTES;
     size_t i = named(s, table, address, size), to = i + 1;
     if (i == s->count)
-        return NOT_LIVE;
+        return misnamed(s, table, address);
     struct entry e = entry_at(table, i);
     bool large = e.kind == LIVE_LARGE;
     if (by >= size || (large && size - by < s->page))
@@ -356,7 +372,7 @@ static uint64_t drawn(uint64_t x) {
 }
 
 static void note(struct run *run, uint64_t answer) {
-    run->accepted += answer < UINT64_MAX - TOO_LITTLE_LEFT;
+    run->accepted += answer < UINT64_MAX - LARGEST_REFUSAL;
     run->sum = drawn(run->sum + answer);
     run->sum = drawn(run->sum + run->space.end);
     run->sum = drawn(run->sum + run->space.count);

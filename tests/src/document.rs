@@ -3,8 +3,10 @@
 //!   Claim      a sentence, and calls that show it with the answers that it states
 //!   CLAIMS     each claim of the document; a claim starts with an opening
 //!   script_of  a claim's calls, as a script
+//!   WORDS_OF_STEP_5, AFTER_STEP_5   the line that sets the table after step 5 of the document's run, and the answer that shows it
 //!
-//! `show words` is asked where the document states the table. Not here: the sentences of request E2 (request.rs).
+//! `show words` is asked where the document states the table. Where a name is refused, the number is request E3's. Not here: the sentences of the
+//! requests (request_e2.rs, request_e3.rs).
 
 /// A sentence of a document, and calls that show it: a call with its answer.
 pub struct Claim {
@@ -16,7 +18,9 @@ pub fn script_of(claim: &Claim) -> Vec<String> {
     claim.calls.iter().map(|(call, _)| call.to_string()).collect()
 }
 
-const AFTER_STEP_5: &str =
+pub const WORDS_OF_STEP_5: &str =
+    "words 0 96 1 96 416 1 512 100 2 612 412 5 1024 700 3 1724 324 6 2048 10 1 2058 502 4 0 0 0 0 0 0 0 0 0 0 0 0";
+pub const AFTER_STEP_5: &str =
     "words: 0 96 1 96 416 1 512 100 2 612 412 5 1024 700 3 1724 324 6 2048 10 1 2058 502 4 0 0 0 0 0 0 0 0 0 0 0 0";
 const AFTER_STEP_12: &str = "words: 0 96 1 96 416 1 512 100 2 612 412 5 0 0 0 0 0 0 0 0 0 0 0 0 0 0 0 0 0 0 0 0 0 0 0 0";
 
@@ -138,14 +142,13 @@ pub const CLAIMS: &[Claim] = &[
         ],
     },
     Claim {
-        says: "extend or shorten naming size 0 is 4; release of size 0 is 7",
+        says: "extend or shorten naming size 0, or by 0, is 4",
         calls: &[
             ("open 512 5120 12", "done; end 0; 0 entries"),
             ("extend 0 0 1", "refused 4; end 0; 0 entries"),
             ("shorten 0 0 1", "refused 4; end 0; 0 entries"),
             ("extend 0 1 0", "refused 4; end 0; 0 entries"),
             ("shorten 0 1 0", "refused 4; end 0; 0 entries"),
-            ("release 0 0", "refused 7; end 0; 0 entries"),
         ],
     },
     Claim {
@@ -208,7 +211,7 @@ pub const CLAIMS: &[Claim] = &[
             ("open 1000 5000 12", "done; end 0; 0 entries"),
             ("allocate raw 1200", "at 0; end 2000; 2 entries"),
             ("allocate raw 18446744073709551615", "refused 5; end 2000; 2 entries"),
-            ("release 0 18446744073709551615", "refused 7; end 2000; 2 entries"),
+            ("release 0 18446744073709551615", "refused 16; end 2000; 2 entries"),
             ("extend 0 1200 18446744073709551615", "refused 8; end 2000; 2 entries"),
             ("shorten 0 1200 18446744073709551615", "refused 9; end 2000; 2 entries"),
         ],

@@ -277,24 +277,31 @@ impl Author<'_> {
     fn name(&mut self) -> (u64, u64) {
         let entries = self.model().entries();
         if entries.is_empty() {
-            return (0, self.draw.below(2));
+            return (self.draw.pick(&[0, 0, 1, u64::MAX]), self.draw.below(2));
         }
         let live: Vec<Entry> = entries.iter().copied().filter(Entry::is_live).collect();
-        if live.is_empty() || self.draw.once_in(12) {
+        if live.is_empty() || self.draw.once_in(8) {
             return self.wrong_name(&entries);
         }
         let piece = self.draw.pick(&live);
         (piece.address, piece.size)
     }
 
+    /// A name at the edges of an entry, inside it, or at the end. A wrong name may be a live piece's all the same.
     fn wrong_name(&mut self, entries: &[Entry]) -> (u64, u64) {
         let e = self.draw.pick(entries);
-        match self.draw.below(5) {
+        let behind = e.address.wrapping_add(e.size);
+        let inside = e.address.wrapping_add(self.draw.below(e.size.max(1)));
+        match self.draw.below(9) {
             0 => (e.address, 0),
             1 => (e.address, self.near(e.size)),
             2 => (self.near(e.address), e.size),
             3 => (u64::MAX, e.size),
-            _ => (e.address, u64::MAX),
+            4 => (e.address, u64::MAX),
+            5 => (behind.wrapping_sub(1), self.near(1)),
+            6 => (inside, e.size),
+            7 => (inside, behind.wrapping_sub(inside)),
+            _ => (self.near(self.state().end), e.size),
         }
     }
 

@@ -1,19 +1,20 @@
 //! Differential tests of the program `filespace`.
 //!
-//!   model      document 01's space with request E2's summary: soundness, opening and the calls, read literally
+//!   model      document 01's space with request E2's summary and request E3's refusals: soundness, opening and the calls, read literally
 //!   summary    the numbers of a summary, worked out from entries
 //!   message    document 01's File Space Info message
 //!   script     the program's script language, answered by the model
 //!   document   document 01's own run and sentences, as calls with their answers
-//!   request    request E2's sentences, in the same form
-//!   sweep      scripts that change a good table, state or message in each place in turn
+//!   request_e2, request_e3   the sentences of these requests, in the same form
+//!   sweep      scripts that change a good table, state or message in each place in turn, or name a piece at each address
 //!   generate   random scripts, drawn with the model's knowledge of the table
 //!   draw       random numbers from a seed
 //!   tally      what was compared, and what a run must not lack
 //!   play       a script played through a program, compared, and shrunk on a difference
 //!
 //! Programs: `runner` plays scripts through the program that it is given; `model_filespace` speaks the program's script
-//! language with the model, right or with one of document 01's errors or one in a summary, so that the runner itself can be tested.
+//! language with the model, right or with one of document 01's errors, one in a summary or one in what is wrong with a name, so that the runner
+//! itself can be tested.
 
 pub mod document;
 pub mod draw;
@@ -21,7 +22,8 @@ pub mod generate;
 pub mod message;
 pub mod model;
 pub mod play;
-pub mod request;
+pub mod request_e2;
+pub mod request_e3;
 pub mod script;
 pub mod summary;
 pub mod sweep;

@@ -1,17 +1,19 @@
-//! Document 01's rules for a space, with request E2's summary, read literally: each rule stands beside the sentence that decides it.
+//! Document 01's rules for a space, with request E2's summary and request E3's refusals, read literally: each rule stands beside the sentence
+//! that decides it.
 //!
 //!   State      the four numbers P, M, E, n
 //!   Entry      a piece with its kind, one of the six
-//!   Slip       one of the errors that document 01 says a builder will be drawn to, a refusal that writes, or an error in the summary;
-//!              `Slip::None` is the model
+//!   Slip       one of the errors that document 01 says a builder will be drawn to, a refusal that writes, an error in the summary, or one in
+//!              what is wrong with a name; `Slip::None` is the model
 //!   is_sound   whether a state and a table keep every rule of a sound table
 //!   Model      a state over a lent table of words with a lent summary, and the calls `open`, `allocate`, `release`, `extend`, `shorten`,
 //!              `list`, `fresh`
 //!   Draft      the entries and the E that a call would leave; a refused call drops its draft, so it changes nothing
 //!
 //! What is document 01's was written from it, and from decisions handed to the writer where it leaves a corner open; the library and its specs
-//! were not read. What is the summary's was written from request E2's words, before the library had a summary. Sums that could pass 2^64 are
-//! over u128. Not here: the numbers of a summary (summary.rs), and the File Space Info message.
+//! were not read. What is the summary's was written from request E2's words, before the library had a summary; what is wrong with a name, from
+//! request E3's words, and again the library was not read. Sums that could pass 2^64 are over u128. Not here: the numbers of a summary
+//! (summary.rs), and the File Space Info message.
 
 use crate::summary::{Summary, Totals};
 
@@ -40,10 +42,13 @@ pub const UNKNOWN_CODE: u64 = 3;
 pub const NO_BYTES: u64 = 4;
 pub const BEYOND_LIMIT: u64 = 5;
 pub const TABLE_FULL: u64 = 6;
-pub const NOT_LIVE: u64 = 7;
 pub const NO_ROOM_BEHIND: u64 = 8;
 pub const TOO_LITTLE_LEFT: u64 = 9;
 pub const SLICE_TOO_SHORT: u64 = 10;
+pub const BEYOND_END: u64 = 13;
+pub const IN_FREE: u64 = 14;
+pub const INSIDE_LIVE: u64 = 15;
+pub const OTHER_SIZE: u64 = 16;
 
 /// A refusal's number.
 pub type Refusal = u64;
@@ -73,7 +78,7 @@ pub struct Entry {
     pub kind: u64,
 }
 
-/// The errors of document 01's list, and errors in a summary, to see that the runner finds each.
+/// The errors of document 01's list, errors in a summary, and errors in what is wrong with a name, to see that the runner finds each.
 #[derive(Clone, Copy, Debug, Default, PartialEq, Eq)]
 pub enum Slip {
     #[default]
@@ -94,10 +99,14 @@ pub enum Slip {
     DecadeStartsTooLate,
     OpeningKeepsTheDecades,
     FreshKeepsTheSignedNumber,
+    FreeToldAsInside,
+    EndToldAsFree,
+    OtherSizeToldAsInside,
+    BeyondTheEndAByteLate,
 }
 
 /// Every slip with the name by which `model_filespace` takes it.
-pub const SLIPS: [(&str, Slip); 16] = [
+pub const SLIPS: [(&str, Slip); 20] = [
     ("first-fit", Slip::FirstFit),
     ("small-in-a-misaligned-rest", Slip::SmallInAMisalignedRest),
     ("merged-over-a-border", Slip::MergedOverABorder),
@@ -114,6 +123,10 @@ pub const SLIPS: [(&str, Slip); 16] = [
     ("decade-starts-too-late", Slip::DecadeStartsTooLate),
     ("opening-keeps-the-decades", Slip::OpeningKeepsTheDecades),
     ("fresh-keeps-the-signed-number", Slip::FreshKeepsTheSignedNumber),
+    ("free-told-as-inside", Slip::FreeToldAsInside),
+    ("end-told-as-free", Slip::EndToldAsFree),
+    ("other-size-told-as-inside", Slip::OtherSizeToldAsInside),
+    ("beyond-the-end-a-byte-late", Slip::BeyondTheEndAByteLate),
 ];
 
 /// The code of the manager for large pieces; `METADATA` and `RAW` are those of the small ones.
@@ -160,6 +173,11 @@ impl Entry {
             LIVE_RAW | FREE_RAW => RAW,
             _ => LARGE,
         }
+    }
+
+    /// Whether the byte at an address is one of the entry's.
+    pub fn holds(&self, address: u64) -> bool {
+        self.address <= address && u128::from(address) < self.end()
     }
 
     /// Whether a byte of the entry lies in the page of `page` bytes at `border`.
@@ -283,12 +301,12 @@ impl Model {
         })
     }
 
-    /// "The piece becomes free of its class". "Release 2, 7, 6."
+    /// "The piece becomes free of its class". Order: 2, 13 to 16, 6.
     pub fn release(&mut self, address: u64, size: u64) -> Result<(), Refusal> {
         self.call(|draft| draft.live(address, size).map(|index| draft.free(index, size)))
     }
 
-    /// "Extend by m": the piece takes m bytes of the room behind it. "Extend 2, 4, 7, 8, 5, 6."
+    /// "Extend by m": the piece takes m bytes of the room behind it. Order: 2, 4, 13 to 16, 8, 5, 6.
     pub fn extend(&mut self, address: u64, size: u64, by: u64) -> Result<(), Refusal> {
         self.call(|draft| {
             let index = draft.live_to_change(address, size, by)?;
@@ -299,8 +317,8 @@ impl Model {
         })
     }
 
-    /// "At least 1 byte must remain of a small piece, at least P of a large one. The cut part is freed as in a release."
-    /// "Shorten 2, 4, 7, 9, 6."
+    /// "At least 1 byte must remain of a small piece, at least P of a large one. The cut part is freed as in a release." Order: 2, 4, 13 to
+    /// 16, 9, 6.
     pub fn shorten(&mut self, address: u64, size: u64, by: u64) -> Result<(), Refusal> {
         self.call(|draft| {
             let index = draft.live_to_change(address, size, by)?;
@@ -479,13 +497,40 @@ impl Draft {
         Ok(grown)
     }
 
-    /// The index of the piece that a call names; refused when "no live entry has this address and size".
+    /// The index of the piece that a call names, or what is wrong with the name.
     fn live(&self, address: u64, size: u64) -> Result<usize, Refusal> {
-        let is_named = |entry: &Entry| entry.is_live() && entry.address == address && entry.size == size;
-        self.entries.iter().position(is_named).ok_or(NOT_LIVE)
+        self.named(address, size).map_err(|why| self.told(why, address))
     }
 
-    /// The index of the piece that an extend or a shorten names: refusal 4, then 7.
+    /// By the entry in which the address lies: "13 the address is at or beyond E; 14 it lies in free space; 15 it lies inside a live piece and
+    /// isn't its start; 16 it is a live piece's start and the size differs."
+    fn named(&self, address: u64, size: u64) -> Result<usize, Refusal> {
+        if address >= self.state.end {
+            return Err(BEYOND_END);
+        }
+        let index = self.entries.iter().position(|entry| entry.holds(address)).expect("entries hold every byte below E");
+        match self.entries[index] {
+            entry if entry.is_free() => Err(IN_FREE),
+            entry if entry.address != address => Err(INSIDE_LIVE),
+            entry if entry.size != size => Err(OTHER_SIZE),
+            _ => Ok(index),
+        }
+    }
+
+    /// What is told of a name at an address that is refused for this; a slip tells something else.
+    fn told(&self, why: Refusal, address: u64) -> Refusal {
+        let is_at_end = address == self.state.end;
+        match (self.slip, why) {
+            (Slip::FreeToldAsInside, IN_FREE) | (Slip::OtherSizeToldAsInside, OTHER_SIZE) => INSIDE_LIVE,
+            (Slip::EndToldAsFree, BEYOND_END) if is_at_end => IN_FREE,
+            (Slip::BeyondTheEndAByteLate, BEYOND_END) if is_at_end => {
+                self.entries.last().map_or(why, |last| if last.is_free() { IN_FREE } else { INSIDE_LIVE })
+            }
+            _ => why,
+        }
+    }
+
+    /// The index of the piece that an extend or a shorten names: refusal 4, then 13 to 16.
     fn live_to_change(&self, address: u64, size: u64, by: u64) -> Result<usize, Refusal> {
         match (size, by) {
             (0, _) | (_, 0) => Err(NO_BYTES),

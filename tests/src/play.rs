@@ -96,8 +96,8 @@ fn differs(found: Vec<String>, expected: &[Option<String>]) -> Option<Difference
 fn expected(lines: &[String]) -> (Vec<Option<String>>, Vec<Met>) {
     let mut machine = Machine::default();
     let mut play = |line: &String| {
-        let summary = machine.model.summary;
-        (machine.answer(line), Met::between(line, &summary, &machine.model))
+        let before = Met::before(line, &machine.model);
+        (machine.answer(line), before.and_after(&machine.model))
     };
     lines.iter().map(&mut play).unzip()
 }

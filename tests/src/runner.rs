@@ -1,18 +1,18 @@
-//! Plays the calls of document 01 and of request E2, then sweeps, then random scripts through a program that speaks `filespace`'s language,
-//! and compares every answer, every word and every number of the summary with the model.
+//! Plays the calls of document 01 and of requests E2 and E3, then sweeps, then random scripts through a program that speaks `filespace`'s
+//! language, and compares every answer, every word and every number of the summary with the model.
 //!
 //!   runner [--seed N] [--calls N] COMMAND [WORDS..]
 //!
 //! The seed is printed; without one it is taken from the clock. On a difference the script is shrunk and printed with what was
-//! expected and what was found, and the exit status is 1. It is 1 too where a run of 20,000 calls or more lacked a call, one of its refusals
-//! or a situation: such a run shows too little.
+//! expected and what was found, and the exit status is 1. It is 1 too where a run of 20,000 calls or more lacked a call, one of its refusals,
+//! a situation or an edge of a name: such a run shows too little.
 
 use difftest::document::{script_of, Claim};
 use difftest::draw::Draw;
 use difftest::generate::script;
 use difftest::play::{compare, first_difference, shrink, Difference, Program};
 use difftest::tally::Tally;
-use difftest::{document, request, sweep};
+use difftest::{document, request_e2, request_e3, sweep};
 use std::process::ExitCode;
 use std::time::{Instant, SystemTime, UNIX_EPOCH};
 
@@ -118,7 +118,7 @@ fn main() -> ExitCode {
     println!("seed {}", options.seed);
     let began = Instant::now();
     let mut tally = Tally::default();
-    let papers = [("document 01", document::CLAIMS), ("request E2", request::CLAIMS)];
+    let papers = [("document 01", document::CLAIMS), ("request E2", request_e2::CLAIMS), ("request E3", request_e3::CLAIMS)];
     let hold = papers.iter().all(|(paper, claims)| claims_hold(&options.program, paper, claims));
     let agree = hold && scripts_agree(&options, &mut tally);
     println!("{}", tally.lines().join("\n"));

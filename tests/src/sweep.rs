@@ -1,8 +1,9 @@
 //! Scripts that change a good table, state, summary or message in each place in turn, lend each number of bytes for a message, go through all
-//! small tables at a page's edges and sections at each decade's edges, fill the largest table, and try lines at the edges of the script
-//! language.
+//! small tables at a page's edges and sections at each decade's edges, name a piece at each address of small files, fill the largest table, and
+//! try lines at the edges of the script language.
 //!
 //!   scripts    all of them; they are the same in every run
+//!   names      those of them that name a piece at each address
 //!   messages   the good messages
 
 use crate::message::{bytes_of, Fields, ABSENT, FULL_LENGTH, HEAD_LENGTH, UNDEFINED};
@@ -29,7 +30,7 @@ fn table() -> Vec<u64> {
 
 pub fn scripts() -> Vec<Vec<String>> {
     let damaged = [each_word(), each_number_of_the_state(), each_length_of_a_table(), each_number_of_the_summary()];
-    let tables = [each_small_table(512), each_small_table(1_000), each_decade(512), each_decade(1_000), largest_table()];
+    let tables = [each_small_table(512), each_small_table(1_000), each_decade(512), each_decade(1_000), largest_table(), names()];
     let read = [each_byte_of_a_message(), each_length_of_a_message()];
     let written = [each_room_for_a_message(), each_address_without_persistence()];
     let lines = [edges_of_lines(), edges_of_summary_lines()];
@@ -115,14 +116,20 @@ fn choices(of: &[u64], count: usize) -> Vec<Vec<u64>> {
     choices(of, count - 1).into_iter().flat_map(with).collect()
 }
 
-/// Entries of these sizes and kinds, one behind the other, set in a table of 4, and a call on them. Sums go round at 2^64.
-fn in_a_row(page: u64, sizes: &[u64], kinds: &[u64], call: String) -> Vec<String> {
+/// Entries of these sizes and kinds, one behind the other, and the end of the last one. Sums go round at 2^64.
+fn tiled(sizes: &[u64], kinds: &[u64]) -> (Vec<Entry>, u64) {
     let mut entries = Vec::new();
     let mut end: u64 = 0;
     for (size, kind) in sizes.iter().zip(kinds) {
         entries.push(Entry { address: end, size: *size, kind: *kind });
         end = end.wrapping_add(*size);
     }
+    (entries, end)
+}
+
+/// Entries in a row, set in a table of 4, and a call on them.
+fn in_a_row(page: u64, sizes: &[u64], kinds: &[u64], call: String) -> Vec<String> {
+    let (entries, end) = tiled(sizes, kinds);
     let table = table_of(&entries, 4 * ENTRY_WORDS);
     let state = State { page, limit: LARGEST_LIMIT, end, count: sizes.len() as u64 };
     set(&state, &table).into_iter().chain([call, show_words(), show_summary()]).collect()
@@ -153,6 +160,53 @@ fn each_decade(page: u64) -> Vec<String> {
     let edges = (0..COUNTS as u32).map(|decade| 10u64.pow(decade));
     let sizes = edges.flat_map(|edge| [edge - 1, edge, edge + 1]).filter(|size| *size > 0);
     opened(sizes.flat_map(|size| [row(size, "shorten"), row(size, "extend")].concat()))
+}
+
+/// A file with entries of every kind, live and free ones of 1 byte among them, that ends with a live piece; a file that ends with a free entry;
+/// and a file that has no entry.
+pub fn names() -> Vec<String> {
+    let sizes = [1, 1, 1, 507, 1, 1, 513, 511, 1, 1, 100, 310, 100];
+    let live_last = tiled(&sizes, &[1, 4, 1, 1, 4, 1, 3, 6, 2, 5, 2, 5, 2]);
+    let free_last = tiled(&[1, 300, 1, 210], &[2, 5, 2, 5]);
+    opened([live_last, free_last, tiled(&[], &[])].iter().flat_map(|(entries, end)| each_name(entries, *end)))
+}
+
+/// Each address of a file, a few behind its end and a few more up to the last one, named with each size at an edge of the entry there. A call
+/// that names a live piece may be accepted, so the file is then set anew.
+fn each_name(entries: &[Entry], end: u64) -> Vec<String> {
+    let state = State { end, count: entries.len() as u64, ..STATE };
+    let anew = set(&state, &table_of(entries, 16 * ENTRY_WORDS));
+    let mut lines = anew.to_vec();
+    for address in (0..end + 4).chain([1 << 63, u64::MAX - 1, u64::MAX]) {
+        let holder = entries.iter().find(|entry| entry.holds(address));
+        for size in sizes_to_name(address, holder) {
+            let is_live = holder.is_some_and(|entry| entry.is_live() && (entry.address, entry.size) == (address, size));
+            for call in calls_that_name(address, size) {
+                lines.push(call);
+                if is_live {
+                    lines.extend([&[show_words(), show_summary()], &anew[..]].concat());
+                }
+            }
+        }
+        lines.extend([show_words(), show_summary()]);
+    }
+    lines
+}
+
+/// The sizes with which an address is named: around the size of the entry that holds it, and what the entry has from there on.
+fn sizes_to_name(address: u64, holder: Option<&Entry>) -> Vec<u64> {
+    let around = holder.map_or(vec![STATE.page], |entry| {
+        let from_there_on = entry.address + entry.size - address;
+        vec![entry.size - 1, entry.size, entry.size + 1, from_there_on]
+    });
+    let mut sizes = [&[0, 1, u64::MAX], &around[..]].concat();
+    sizes.sort();
+    sizes.dedup();
+    sizes
+}
+
+fn calls_that_name(address: u64, size: u64) -> [String; 3] {
+    [format!("release {address} {size}"), format!("extend {address} {size} 1"), format!("shorten {address} {size} 1")]
 }
 
 /// The largest table with all entries taken, 512 pages of a small piece and a free rest: calls that need an entry more, and calls that need

@@ -1,22 +1,27 @@
-//! What was compared: calls by name and answer, situations, words, summaries. A long run that lacks one of document 01's refusals, a
-//! situation or a decade of sections is no good run.
+//! What was compared: calls by name and answer, situations, names of pieces, words, summaries. A long run that lacks one of the refusals, a
+//! situation, an edge of a name or a decade of sections is no good run.
 //!
 //!   CALLS        document 01's calls and `fresh`, each with the refusals that it can give
 //!   SITUATIONS   what calls are to meet
+//!   NAMING       the calls that name a piece
+//!   EDGES        where the address and the size of a name are to lie, in each of those calls
+//!   Name         a name, and the entry in which its address lies
+//!   Met          what a call met, before it and after it
 //!   Tally        the counts; `missing` names what never came
 
 use crate::message::HEAD_LENGTH;
-use crate::model::{is_sound, Model, ENTRY_WORDS, LARGEST_PAGE, NOT_SOUND, SLICE_TOO_SHORT};
+use crate::model::{is_sound, Entry, Model, ENTRY_WORDS, LARGEST_PAGE, NOT_SOUND, NO_BYTES, SLICE_TOO_SHORT};
+use crate::model::{BEYOND_END, INSIDE_LIVE, IN_FREE, OTHER_SIZE};
 use crate::summary::{Summary, Totals, COUNTS};
 
-/// The refusals in document 01's order. Not here: 6 for release, which cannot come (docs/DECISIONS.md, 9).
+/// The refusals in the order of each call. Not here: 6 for release, which cannot come (docs/DECISIONS.md, 9).
 pub const CALLS: [(&str, &[u64]); 10] = [
     ("open", &[1]),
     ("default", &[1]),
     ("allocate", &[2, 3, 4, 5, 6]),
-    ("release", &[2, 7]),
-    ("extend", &[2, 4, 7, 8, 5, 6]),
-    ("shorten", &[2, 4, 7, 9, 6]),
+    ("release", &[2, 13, 14, 15, 16]),
+    ("extend", &[2, 4, 13, 14, 15, 16, 8, 5, 6]),
+    ("shorten", &[2, 4, 13, 14, 15, 16, 9, 6]),
     ("list", &[2, 3, 10]),
     ("read", &[10, 11, 12]),
     ("write", &[12, 10]),
@@ -24,9 +29,18 @@ pub const CALLS: [(&str, &[u64]); 10] = [
 ];
 
 const ACCEPTED: usize = 0;
-const REFUSALS: usize = 12;
+const REFUSALS: usize = 16;
 
-/// What a call met: the space after it, the summary before and after it, and whether it names a number near 2^64.
+/// The address and the size by which a call names a piece, the end that it meets, and the entry in which the address lies, if it lies in one.
+#[derive(Clone, Copy, Debug)]
+pub struct Name {
+    pub address: u64,
+    pub size: u64,
+    pub end: u64,
+    pub entry: Option<Entry>,
+}
+
+/// What a call met: the space after it, the summary before and after it, the name that it gives, and whether it names a number near 2^64.
 #[derive(Clone, Debug, Default)]
 pub struct Met {
     pub call: String,
@@ -35,6 +49,7 @@ pub struct Met {
     pub count: u64,
     pub is_near_the_largest: bool,
     pub before: Summary,
+    pub name: Option<Name>,
     pub after: Summary,
     /// The summary after the call disagrees with a sound table.
     pub disagrees: bool,
@@ -43,7 +58,7 @@ pub struct Met {
 /// By what a call met, and by its answer.
 type IsMet = fn(&Met, &str) -> bool;
 
-pub const SITUATIONS: [(&str, IsMet); 27] = [
+pub const SITUATIONS: [(&str, IsMet); 29] = [
     ("P = 512", |m, a| is_past_2(a) && m.page == 512),
     ("P = 1,000", |m, a| is_past_2(a) && m.page == 1_000),
     ("P = 4,096", |m, a| is_past_2(a) && m.page == 4_096),
@@ -71,25 +86,84 @@ pub const SITUATIONS: [(&str, IsMet); 27] = [
     ("a summary that a refused opening leaves", |m, a| m.is_opening() && refusal_in(a).is_some() && m.before != Summary::default()),
     ("a summary worked out afresh to another one", |m, a| m.call == "fresh" && is_past_2(a) && m.before.totals != m.after.totals),
     ("a summary that a refused fresh leaves", |m, a| m.call == "fresh" && !is_past_2(a) && m.before != Summary::default()),
+    ("size 0 at a live piece's start, refused as a name", |m, a| m.has_name(|n| n.size == 0) && refusal_in(a) == Some(OTHER_SIZE)),
+    ("a name where there is no entry", |m, a| m.has_name(|n| n.end == 0) && refusal_in(a) == Some(BEYOND_END)),
 ];
 
+pub const NAMING: [&str; 3] = ["release", "extend", "shorten"];
+
+/// By a name and the entry in which it lies.
+type IsAt = fn(&Name) -> bool;
+
+/// Each edge with the refusal that is due there; none is due where the name is a live piece's.
+pub const EDGES: [(&str, IsAt, Option<u64>); 10] = [
+    ("E, which is not 0", |n| n.end > 0 && n.address == n.end, Some(BEYOND_END)),
+    ("E - 1, free", |n| n.is_before_the_end(), Some(IN_FREE)),
+    ("E - 1, live", |n| n.is_before_the_end(), Some(INSIDE_LIVE)),
+    ("the first byte of a free entry", |n| n.is_byte(0), Some(IN_FREE)),
+    ("the last byte of a free entry", |n| n.is_last_byte(), Some(IN_FREE)),
+    ("the second byte of a live piece", |n| n.is_byte(1), Some(INSIDE_LIVE)),
+    ("the last byte of a live piece", |n| n.is_last_byte(), Some(INSIDE_LIVE)),
+    ("a live piece's start with a byte less", |n| n.is_first_byte_of(n.size.checked_add(1)), Some(OTHER_SIZE)),
+    ("a live piece's start with a byte more", |n| n.is_first_byte_of(n.size.checked_sub(1)), Some(OTHER_SIZE)),
+    ("a live piece's start with its size", |n| n.is_first_byte_of(Some(n.size)), None),
+];
+
+impl Name {
+    /// The name that a line gives to a piece of this model, if it is a call that names one.
+    fn given(line: &str, model: &Model) -> Option<Name> {
+        let mut words = line.split_ascii_whitespace();
+        words.next().filter(|call| NAMING.contains(call))?;
+        let mut number = || words.next()?.parse().ok();
+        let (address, size) = (number()?, number()?);
+        let entry = model.entries().into_iter().find(|entry| entry.holds(address));
+        Some(Name { address, size, end: model.state.end, entry })
+    }
+
+    fn is_before_the_end(&self) -> bool {
+        self.address.checked_add(1) == Some(self.end)
+    }
+
+    /// The address is so many bytes behind the start of its entry.
+    fn is_byte(&self, behind: u64) -> bool {
+        self.entry.is_some_and(|entry| self.address - entry.address == behind)
+    }
+
+    fn is_last_byte(&self) -> bool {
+        self.entry.is_some_and(|entry| u128::from(self.address) + 1 == entry.end())
+    }
+
+    /// The address is the start of its entry, which has this size.
+    fn is_first_byte_of(&self, size: Option<u64>) -> bool {
+        self.is_byte(0) && self.entry.map(|entry| entry.size) == size
+    }
+}
+
 impl Met {
-    /// What a line met that left this model, by the summary before it.
-    pub fn between(line: &str, before: &Summary, model: &Model) -> Met {
+    /// What a line meets that this model is to answer.
+    pub fn before(line: &str, model: &Model) -> Met {
         let near = |word: &str| word.parse::<u64>().is_ok_and(|n| n > u64::MAX - 1_000);
         let mut words = line.split_ascii_whitespace();
         let is_near_the_largest = words.clone().any(near);
+        let call = words.next().unwrap_or_default().to_string();
+        Met { call, is_near_the_largest, before: model.summary, name: Name::given(line, model), ..Met::default() }
+    }
+
+    /// The same, with what the line left in the model.
+    pub fn and_after(self, model: &Model) -> Met {
         let disagrees = Totals::of(&model.entries()) != model.summary.totals && is_sound(&model.state, &model.table);
         Met {
-            call: words.next().unwrap_or_default().to_string(),
             page: model.state.page,
             capacity: (model.table.len() / ENTRY_WORDS) as u64,
             count: model.state.count,
-            is_near_the_largest,
-            before: *before,
             after: model.summary,
             disagrees,
+            ..self
         }
+    }
+
+    fn has_name(&self, is: IsAt) -> bool {
+        self.name.as_ref().is_some_and(is)
     }
 
     /// The largest section of the manager at this place is gone, and what is left is smaller.
@@ -105,6 +179,15 @@ impl Met {
 /// The call got past refusal 2, whatever it answers then.
 fn is_past_2(answer: &str) -> bool {
     refusal_in(answer) != Some(NOT_SOUND)
+}
+
+/// The refusals of a call that names a piece, up to those of its name.
+const UP_TO_THE_NAME: [u64; 6] = [NOT_SOUND, NO_BYTES, BEYOND_END, IN_FREE, INSIDE_LIVE, OTHER_SIZE];
+
+/// The call was refused for its name with the number that is due; where none is due, it got past its name.
+fn is_judged(due: Option<u64>, answer: &str) -> bool {
+    let refusal = refusal_in(answer);
+    if due.is_some() { refusal == due } else { refusal.is_none_or(|number| !UP_TO_THE_NAME.contains(&number)) }
 }
 
 /// An accepted call that may change a table.
@@ -125,6 +208,8 @@ pub struct Tally {
     /// Calls by name and refusal; those that were accepted come first.
     of: [[u64; REFUSALS + 1]; CALLS.len()],
     situations: [u64; SITUATIONS.len()],
+    /// Names at each edge, by the call that gives them.
+    names: [[u64; NAMING.len()]; EDGES.len()],
     /// Changes that left a section in each count of a summary.
     decades: [u64; COUNTS],
 }
@@ -173,6 +258,11 @@ impl Tally {
         for (count, (_, is_met)) in self.situations.iter_mut().zip(&SITUATIONS) {
             *count += u64::from(is_met(met, answer));
         }
+        if let Some(call) = NAMING.iter().position(|name| *name == met.call) {
+            for (counts, (_, is_at, due)) in self.names.iter_mut().zip(&EDGES) {
+                counts[call] += u64::from(met.has_name(*is_at) && is_judged(*due, answer));
+            }
+        }
         for (count, sections) in self.decades.iter_mut().zip(met.after.totals.counts) {
             *count += u64::from(is_change(met, answer) && sections > 0);
         }
@@ -183,7 +273,7 @@ impl Tally {
         self.of.iter().flatten().sum()
     }
 
-    /// A line for each call, with how often it was accepted and refused, and one for the situations.
+    /// A line for each call, with how often it was accepted and refused, and one each for the situations, the names and the decades.
     pub fn lines(&self) -> Vec<String> {
         let mut lines = vec![format!("{:<10}{:>9}   {}", "call", "accepted", "refused")];
         for ((name, refusals), of) in CALLS.iter().zip(&self.of) {
@@ -192,8 +282,10 @@ impl Tally {
         }
         let met: Vec<String> = SITUATIONS.iter().zip(self.situations).map(|((name, _), count)| format!("{name}: {count}")).collect();
         lines.push(format!("calls with {}", met.join("; ")));
-        let left: Vec<String> = self.decades.iter().map(u64::to_string).collect();
-        lines.push(format!("changes that left a section under 10 bytes, and in each decade: {}", left.join(" ")));
+        let counts = |of: &[u64]| of.iter().map(u64::to_string).collect::<Vec<_>>().join(" ");
+        let named: Vec<String> = EDGES.iter().zip(&self.names).map(|((edge, ..), of)| format!("{edge}: {}", counts(of))).collect();
+        lines.push(format!("names given to {} at {}", NAMING.join(", "), named.join("; ")));
+        lines.push(format!("changes that left a section under 10 bytes, and in each decade: {}", counts(&self.decades)));
         lines
     }
 
@@ -208,6 +300,10 @@ impl Tally {
         }
         let never = SITUATIONS.iter().zip(self.situations).filter(|(_, count)| *count == 0);
         missing.extend(never.map(|((name, _), _)| format!("a call with {name}")));
+        for ((edge, ..), of) in EDGES.iter().zip(&self.names) {
+            let never = NAMING.iter().zip(of).filter(|(_, count)| **count == 0);
+            missing.extend(never.map(|(call, _)| format!("{call} at {edge}")));
+        }
         let empty = (0..COUNTS).filter(|decade| self.decades[*decade] == 0);
         missing.extend(empty.map(|decade| format!("a change that left a section in count {decade} of the summary")));
         missing
@@ -223,15 +319,17 @@ mod tests {
 
     #[test]
     fn what_never_came_is_named() {
-        let (of, situations, decades) = ([[1; REFUSALS + 1]; CALLS.len()], [1; SITUATIONS.len()], [1; COUNTS]);
-        let mut tally = Tally { of, situations, decades, ..Tally::default() };
+        let (of, situations, names, decades) =
+            ([[1; REFUSALS + 1]; CALLS.len()], [1; SITUATIONS.len()], [[1; NAMING.len()]; EDGES.len()], [1; COUNTS]);
+        let mut tally = Tally { of, situations, names, decades, ..Tally::default() };
         assert!(tally.missing().is_empty());
         tally.of[4][6] = 0;
         tally.of[7][ACCEPTED] = 0;
         tally.situations[1] = 0;
+        tally.names[1][2] = 0;
         tally.decades[18] = 0;
-        let never = ["extend refused with 6", "read accepted", "a call with P = 1,000", "a change that left a section in count 18 of the summary"];
-        assert_eq!(tally.missing(), never);
+        let never = ["extend refused with 6", "read accepted", "a call with P = 1,000", "shorten at E - 1, free"];
+        assert_eq!(tally.missing(), [&never[..], &["a change that left a section in count 18 of the summary"]].concat());
     }
 
     #[test]
@@ -267,15 +365,63 @@ mod tests {
         assert_eq!(met_by(&read_line(&followed)), ["a message of 29 bytes read", "bytes that follow a message of 29 bytes"]);
     }
 
-    /// The situations that the last of these lines meets, by their names.
-    fn met_by_the_last(lines: &[&str]) -> Vec<&'static str> {
+    /// The last of these lines, answered: what it met, and its answer.
+    fn last_of(lines: &[&str]) -> (Met, String) {
         let (last, first) = lines.split_last().expect("a line");
         let mut machine = Machine::default();
         first.iter().for_each(|line| drop(machine.answer(line)));
-        let before = machine.model.summary;
+        let before = Met::before(last, &machine.model);
         let answer = machine.answer(last).expect("an answer");
-        let met = Met::between(last, &before, &machine.model);
+        (before.and_after(&machine.model), answer)
+    }
+
+    /// The situations that the last of these lines meets, by their names.
+    fn met_by_the_last(lines: &[&str]) -> Vec<&'static str> {
+        let (met, answer) = last_of(lines);
         SITUATIONS.iter().filter(|(_, is_met)| is_met(&met, &answer)).map(|(name, _)| *name).filter(|name| !name.contains('=')).collect()
+    }
+
+    /// The edges at which the last of these lines names a piece.
+    fn named_by_the_last(lines: &[&str]) -> Vec<&'static str> {
+        let (met, answer) = last_of(lines);
+        let mut tally = Tally::default();
+        tally.count(&answer, &met);
+        let call = NAMING.iter().position(|call| *call == met.call).expect("a call that names a piece");
+        let at = EDGES.iter().zip(tally.names).filter(|(_, of)| of[call] > 0);
+        at.map(|((edge, ..), _)| *edge).collect()
+    }
+
+    #[test]
+    fn a_name_is_counted_by_where_it_lies() {
+        let first = ["open 512 5120 12", "allocate raw 512", "allocate metadata 10"];
+        let by = |line| named_by_the_last(&[&first[..], &[line]].concat());
+        assert_eq!(by("release 1024 1"), ["E, which is not 0"]);
+        assert_eq!(by("extend 1023 1 1"), ["E - 1, free", "the last byte of a free entry"]);
+        assert_eq!(by("shorten 522 502 1"), ["the first byte of a free entry"]);
+        assert_eq!(by("release 1 511"), ["the second byte of a live piece"]);
+        assert_eq!(by("extend 521 1 1"), ["the last byte of a live piece"]);
+        assert_eq!(by("shorten 512 9 1"), ["a live piece's start with a byte less"]);
+        assert_eq!(by("release 512 11"), ["a live piece's start with a byte more"]);
+        assert_eq!(by("extend 512 10 1"), ["a live piece's start with its size"]);
+        assert_eq!(by("shorten 512 10 10"), ["a live piece's start with its size"]);
+        for other in ["release 1025 1", "release 18446744073709551615 1", "release 523 1", "release 2 1", "release 512 12", "extend 512 10 0"] {
+            assert!(by(other).is_empty(), "{other}");
+        }
+        let live_last = ["open 512 5120 12", "allocate raw 512", "release 511 1"];
+        assert_eq!(named_by_the_last(&live_last), ["E - 1, live", "the last byte of a live piece"]);
+        assert!(named_by_the_last(&["open 512 5120 12", "release 0 1"]).is_empty());
+        assert!(named_by_the_last(&["open 512 5120 12", "words 1", "release 0 1"]).is_empty());
+    }
+
+    #[test]
+    fn a_name_of_size_0_and_a_name_without_an_entry_are_counted() {
+        let opening = "open 512 5120 12";
+        assert_eq!(met_by_the_last(&[opening, "release 0 0"]), ["a name where there is no entry"]);
+        assert_eq!(met_by_the_last(&[opening, "shorten 9 1 1"]), ["a name where there is no entry"]);
+        let refused = "size 0 at a live piece's start, refused as a name";
+        assert_eq!(met_by_the_last(&[opening, "allocate raw 9", "release 0 0"]), [refused]);
+        assert!(met_by_the_last(&[opening, "allocate raw 9", "extend 0 0 1"]).is_empty());
+        assert!(met_by_the_last(&[opening, "allocate raw 9", "release 9 0"]).is_empty());
     }
 
     #[test]

@@ -1,15 +1,26 @@
-//! The tests of the tests: the runner finds nothing between the model and itself, and finds each of document 01's errors and each error in
-//! a summary, by random scripts alone, shrunk to few lines.
+//! The tests of the tests: the runner finds nothing between the model and itself, and finds each of document 01's errors, each error in a
+//! summary and each in what is wrong with a name, by random scripts alone, shrunk to few lines. Those in a name it finds by request E3's claims
+//! alone and by the sweep of names alone, too.
 
+use difftest::document::script_of;
 use difftest::draw::Draw;
 use difftest::generate::script;
 use difftest::model::SLIPS;
-use difftest::play::{compare, shrink, Program};
+use difftest::play::{compare, first_difference, shrink, Program};
 use difftest::tally::Tally;
+use difftest::{request_e3, sweep};
 use std::process::Command;
 
 const RUNNER: &str = env!("CARGO_BIN_EXE_runner");
 const MODEL: &str = env!("CARGO_BIN_EXE_model_filespace");
+
+/// The slips in what is wrong with a name.
+const OF_A_NAME: [&str; 4] = ["free-told-as-inside", "end-told-as-free", "other-size-told-as-inside", "beyond-the-end-a-byte-late"];
+
+/// The model with a slip.
+fn wrong_model(slip: &str) -> Program {
+    Program { command: vec![MODEL.to_string(), slip.to_string()] }
+}
 
 /// Twenty random scripts, the same ones in every run of the tests.
 fn scripts(seed: u64) -> Vec<String> {
@@ -32,7 +43,7 @@ fn the_runner_ends_with_status_1_on_first_fit() {
 #[test]
 fn random_scripts_find_every_slip_and_shrink_to_few_lines() {
     for (name, _) in SLIPS {
-        let program = Program { command: vec![MODEL.to_string(), name.to_string()] };
+        let program = wrong_model(name);
         let differs = |seed| {
             let stream = scripts(seed);
             compare(&program, &stream, &mut Tally::default()).map(|difference| (stream, difference))
@@ -41,6 +52,23 @@ fn random_scripts_find_every_slip_and_shrink_to_few_lines() {
         let (lines, difference) = shrink(&program, &stream, difference);
         assert!(lines.len() <= 5, "{name}: {} lines", lines.len());
         println!("{name}, by {} lines: expected '{}', found '{}'", lines.len(), difference.expected, difference.found);
+    }
+}
+
+#[test]
+fn the_claims_of_request_e3_find_every_slip_in_a_name() {
+    let lines: Vec<String> = request_e3::CLAIMS.iter().flat_map(script_of).collect();
+    let stated: Vec<_> = request_e3::CLAIMS.iter().flat_map(|claim| claim.calls).map(|(_, answer)| Some(answer.to_string())).collect();
+    for name in OF_A_NAME {
+        assert!(first_difference(&wrong_model(name), &lines, &stated).is_some(), "{name} was not found");
+    }
+}
+
+#[test]
+fn the_sweep_of_names_finds_every_slip_in_a_name() {
+    let lines = sweep::names();
+    for name in OF_A_NAME {
+        assert!(compare(&wrong_model(name), &lines, &mut Tally::default()).is_some(), "{name} was not found");
     }
 }
 

@@ -13,7 +13,7 @@ use mathlib.Core.List.{List, [], List·Memᴰ}
 use mathlib.Core.Path.{_≡_, refl, sym, ap, _∙_, subst}
 use native.Mathlib.Omega.{arith}
 use lib.ListN.{length}
-use borrow.Author.Tests.{ltb-false, eqb-false}
+use borrow.Author.Tests.{ltb-false, eqb-false, not-false}
 use Rattle.accepted.proofs.AmongLaws.{lives-entry}
 use Rattle.accepted.proofs.EditedLaws.{IsOr, is-it, is-old, in-insert, in-remove, ResizedOr, is-resized, is-kept, in-resize, end-within}
 use Rattle.accepted.proofs.KeptLaws.{tabled, tabled-sound}
@@ -33,9 +33,7 @@ use Rattle.pieces.specs.declared.Class.{Class}
 use Rattle.pieces.specs.declared.Piece.{Piece}
 use Rattle.pieces.specs.declared.Status.the-variants.{Live}
 use Rattle.pieces.specs.declared.Status.{Status}
-use Rattle.refusals.specs.AnswerNumbers.{notSound, unknownCode, zeroAsked, beyondLimit, tableFull, notNamedNumber}
-use Rattle.refusals.specs.declared.NotNamed.the-variants.{NoBytes, NotLive}
-use Rattle.refusals.specs.declared.NotNamed.{NotNamed}
+use Rattle.refusals.specs.AnswerNumbers.{notSound, unknownCode, zeroAsked, beyondLimit, tableFull}
 use Rattle.refusals.specs.declared.NotResized.the-variants.{NoRoomBehind, BeyondLimit, TooLittleLeft}
 use Rattle.requests.proofs.RequestLaws.{class-small}
 use Rattle.requests.specs.Requests.{classFor}
@@ -43,10 +41,10 @@ use Rattle.room.specs.Room.{roomBehindb, growsBeyondb, remainsb}
 use Rattle.rules.proofs.ChangeLaws.{insert-good, resize-good}
 use Rattle.rules.proofs.RemoveLaws.{remove-good}
 use Rattle.rules.specs.Editing.{insert, remove, resize}
-use Rattle.space.proofs.GiveLaws.{found-named}
-use Rattle.space.proofs.OutcomeLaws.{passed, settled-room}
+use Rattle.space.proofs.GiveLaws.{not-named-some, found-named}
+use Rattle.space.proofs.OutcomeLaws.{is-sound-true, passed, settled-room}
 use Rattle.space.specs.Giving.{nameOf, namedIn, whenNamed, naming, releasedAt, released, entriesBehind, newSize, resizedTo, resizedAt, resized}
-use Rattle.space.specs.Outcomes.{SoundSpace, entriesOf, livesOf, Outcome, refusing, plain, stateOf, settled}
+use Rattle.space.specs.Outcomes.{SoundSpace, soundb, entriesOf, livesOf, Outcome, refusing, plain, stateOf, settled}
 use Rattle.space.specs.Placing.{beyondb, Placed, unplaced, placedAt, placed, allocated}
 use Rattle.space.specs.declared.Space.{Space}
 use Rattle.space.specs.declared.give.Named.{Named}
@@ -82,10 +80,6 @@ passed-place sp w t k p n e = passed unplaced sp w (λ v. v .outcome .refusal) (
 
 -- ---- a call that names a piece
 
-not-named-refused : (why : NotNamed) → notNamedNumber why ≡ 0 → ⊥
-not-named-refused NoBytes e = omega arith
-not-named-refused NotLive e = omega arith
-
 -- it has found the piece, and left o
 pub record Found (sp : Space) (w : List ℕ) (a z : ℕ) (found : ℕ → Piece → Outcome) (o : Outcome) : Type 0 where
   pub place : ℕ
@@ -98,11 +92,12 @@ pub naming-accepted : (sp : Space) (w : List ℕ) (zero : Bool) (a z : ℕ) (fou
 unfolding naming whenNamed
 naming-accepted sp w zero a z found e =
     let p = passed-outcome sp w _ notSound _ (λ q. omega arith) e in
-    rw (p .1) (go (namedIn sp w zero a z) refl (rw (p .1) at e))
+    rw (p .1) (go (is-sound-true sp w (not-false (soundb sp w) (p .0))) (namedIn sp w zero a z) refl (rw (p .1) at e))
   where
-    go : (r : Named) → namedIn sp w zero a z ≡ r → whenNamed sp w found r .refusal ≡ 0 → Found sp w a z found (whenNamed sp w found r)
-    go (Not why) q i = absurd (not-named-refused why i)
-    go (At k x) q i = record { place = k; entry = x; at = found-named sp w zero a z k x (sym q); is = refl }
+    go : SoundSpace sp w → (r : Named) → namedIn sp w zero a z ≡ r → whenNamed sp w found r .refusal ≡ 0
+        → Found sp w a z found (whenNamed sp w found r)
+    go s (Not why) q i = absurd (not-named-some why i)
+    go s (At k x) q i = record { place = k; entry = x; at = found-named sp w s zero a z k x (sym q); is = refl }
 
 settled-changed : (sp : Space) (w : List ℕ) (ps : List Piece) → Good (sp .page) ps → endOf (sp .page) ps ≤ sp .limit → settled sp w ps .refusal ≡ 0
     → Changed sp w ps (settled sp w ps)

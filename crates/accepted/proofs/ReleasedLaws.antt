@@ -6,14 +6,14 @@
 use Prim.Native.Nat.{ℕ, _≤_}
 use mathlib.Core.Bool.{false}
 use mathlib.Core.List.{List}
-use mathlib.Core.Path.{_≡_, refl, sym, _∙_}
+use mathlib.Core.Path.{_≡_, sym, ap, _∙_}
 use native.Mathlib.Omega.{arith}
 use lib.ListN.{length}
 use Rattle.accepted.proofs.AmongLaws.{Among, lives-entry}
 use Rattle.accepted.proofs.KeptLaws.{tabled, sound-count}
-use Rattle.find.proofs.FindLaws.{found-missing}
-use Rattle.find.specs.Find.{findLive}
-use Rattle.find.specs.declared.Found.the-variants as finding
+use Rattle.find.proofs.FindLaws.{finds-right}
+use Rattle.find.specs.Find.{findIn, Named}
+use Rattle.find.specs.declared.Found.the-variants.{At}
 use Rattle.find.specs.declared.Found.{Found}
 use Rattle.pages.proofs.PageLaws.{page-pos}
 use Rattle.pieces.proofs.PieceLaws.{entry-number}
@@ -34,23 +34,22 @@ module _ (sp : Space) (w : List ℕ) (n : Name) (s : SoundSpace sp w) (h : Among
   abbrev left : List Piece
   left = remove n (livesOf sp w)
 
-  not-missing : finding.Missing ≡ findLive (n .address) (n .size) 0 (entriesOf sp w) → ⊥
-  not-missing e =
+  -- the front finds the piece
+  found : (i : ℕ) × (findIn (n .address) (n .size) 0 (entriesOf sp w) ≡ At i (h .it))
+  found =
       let l = lives-entry (entriesOf sp w) (h .it) (h .among) in
       let i = entry-number (l .among) in
-      found-missing (n .address) (n .size) (entriesOf sp w) e (i .0) (h .it) (i .1)
-      (record { class = l .class; live = l .live; address = named-address n (h .it) (h .named); size = named-size n (h .it) (h .named) })
+      let named : Named (n .address) (n .size) (h .it) =
+      record { class = l .class; live = l .live; address = named-address n (h .it) (h .named); size = named-size n (h .it) (h .named) } in
+      let only = finds-right (sp .page) (sp .end) (n .address) (n .size) (entriesOf sp w) (s .rules) .1 in
+      (i .0, sym (only (At (i .0) (h .it)) (record { entry = i .1; named = named })))
 
   released-settled : released sp (n .address) (n .size) w ≡ settled sp w left
   unfolding namedIn whenNamed releasedAt
   released-settled =
       released-naming sp (n .address) (n .size) w
-      ∙ (naming-sound sp w false (n .address) (n .size) _ s ∙ go (findLive (n .address) (n .size) 0 (entriesOf sp w)) refl)
-    where
-      go : (f : Found) → findLive (n .address) (n .size) 0 (entriesOf sp w) ≡ f
-          → whenNamed sp w (releasedAt sp (n .address) (n .size) w) (namedAs f) ≡ settled sp w left
-      go (finding.At i x) e = refl
-      go finding.Missing e = absurd (not-missing (sym e))
+      ∙ (naming-sound sp w false (n .address) (n .size) _ s
+      ∙ ap (λ (f : Found). whenNamed sp w (releasedAt sp (n .address) (n .size) w) (namedAs f)) (found .1))
 
   left-few : length (fill (sp .page) left) ≤ capacity (length w)
   left-few = omega (arith, s .ranges .count, sound-count sp w s, release-count n (page-pos (s .ranges .page)) (sound-good s))

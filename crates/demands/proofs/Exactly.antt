@@ -11,28 +11,29 @@ use Prim.Native.Nat.{ℕ, _+_, _-_, _*_, _<_}
 use mathlib.Core.Bool.{Bool, true, false, cond, not, _||_}
 use mathlib.Core.List.{List}
 use mathlib.Core.Path.{_≡_, refl, sym, ap, _∙_}
+use native.Mathlib.Omega.{arith}
 use lib.Dec.{eqb}
 use lib.ListN.{length}
 use borrow.Author.Tests.{lt-ltb, eq-eqb, ltb-true, eqb-true}
 use Rattle.accepted.proofs.PlaceRule.{place-found}
 use Rattle.demands.proofs.ConditionLaws.{type-test, test-type, manager-test, test-manager, zero-test, test-zero}
-use Rattle.demands.proofs.ConditionLaws.{chosen, beyond-end, end-beyond, there, there-is, placing-it, too-many}
+use Rattle.demands.proofs.ConditionLaws.{chosen, beyond-end as passes-limit, end-beyond, there, there-is, placing-it, too-many}
 use Rattle.demands.proofs.ConditionLaws.{room, has-room, the-room, has-left, the-left, Beyond, grows-last, last-grows}
-use Rattle.demands.specs.Calls.{Call, opens, allocates, releases, extends, shortens, called, IsLive}
+use Rattle.demands.proofs.Names.{told-right, not-before}
+use Rattle.demands.specs.Calls.{Call, opens, allocates, releases, extends, shortens, called}
 use Rattle.demands.specs.Demands.{Exactly}
 use Rattle.demands.specs.Rows.{Given, given, passed-on, UnknownType, UnknownManager, ZeroAsked}
-use Rattle.demands.specs.Rows.{HasRoom, HasLeft, NoPlace, LastLarge, TooMany, FullThere, Row, ListRow}
-use Rattle.find.proofs.FindLaws.{found-missing, found-at}
-use Rattle.find.specs.Find.{FoundAt, findLive}
-use Rattle.find.specs.declared.Found.the-variants.{At, Missing}
+use Rattle.demands.specs.Rows.{beyond-end, in-free, inside-live, other-size, NameRow, HasRoom, HasLeft}
+use Rattle.demands.specs.Rows.{NoPlace, LastLarge, TooMany, FullThere, Row, ListRow}
+use Rattle.find.specs.Find.{FoundAt, findIn, Finds}
+use Rattle.find.specs.declared.Found.the-variants.{At, BeyondEnd, InFree, InsideLive, OtherSize}
 use Rattle.find.specs.declared.Found.{Found}
 use Rattle.pages.proofs.Numbers.{not-both}
 use Rattle.pages.specs.Pages.{up}
-use Rattle.pieces.proofs.PieceLaws.{entry-among, entry-number}
 use Rattle.pieces.specs.Pieces.{classOf}
 use Rattle.pieces.specs.declared.Class.{Class}
 use Rattle.pieces.specs.declared.Piece.{Piece}
-use Rattle.refusals.specs.AnswerNumbers.{notSound, unknownCode, zeroAsked, beyondLimit, tableFull, notLive, noRoomBehind, tooLittleLeft, sliceTooShort}
+use Rattle.refusals.specs.AnswerNumbers.{notSound, unknownCode, zeroAsked, beyondLimit, tableFull, noRoomBehind, tooLittleLeft, sliceTooShort}
 use Rattle.refusals.specs.declared.NotNamed.the-variants.{NoBytes}
 use Rattle.refusals.specs.declared.NotResized.the-variants.{NoRoomBehind, BeyondLimit, TooLittleLeft}
 use Rattle.requests.specs.Requests.{classFor, classOfManager}
@@ -82,21 +83,24 @@ module _ (sp : Space) (w : List ℕ) where
       first refusalOf tableFull _ _ refl (λ r. r ≡ 0) _ (ltb-true (capacity (length w)) (length (fill (sp .page) ps)))
       (lt-ltb (capacity (length w)) (length (fill (sp .page) ps))) (λ e. refl)
 
-  -- 7, and else what was found decides
-  found-row : (a z : ℕ) (found : ℕ → Piece → Outcome) (Rest : ℕ → Type 0)
-      → ((i : ℕ) (x : Piece) → FoundAt a z (entriesOf sp w) i x → Rest (found i x .refusal)) → (f : Found) → findLive a z 0 (entriesOf sp w) ≡ f
-      → Given (whenNamed sp w found (namedAs f) .refusal) notLive (IsLive (entriesOf sp w) (nameOf a z) → ⊥)
-      (Rest (whenNamed sp w found (namedAs f) .refusal))
+  -- 13 to 16, and else what was found decides
+  found-row : SoundSpace sp w → (a z : ℕ) (found : ℕ → Piece → Outcome) (Rest : ℕ → Type 0)
+      → ((i : ℕ) (x : Piece) → FoundAt a z (entriesOf sp w) i x → Rest (found i x .refusal)) → (f : Found) → findIn a z 0 (entriesOf sp w) ≡ f
+      → NameRow sp w a z (whenNamed sp w found (namedAs f) .refusal) (Rest (whenNamed sp w found (namedAs f) .refusal))
   unfolding whenNamed
-  found-row a z found Rest h Missing q =
-      given
-      (λ l. let i = entry-number (l .among) in found-missing a z (entriesOf sp w) (sym q) (i .0) (l .entry) (i .1) (l .named)) refl
-  found-row a z found Rest h (At i x) q =
-      let f = found-at a z (entriesOf sp w) i x (sym q) in
-      passed-on (λ n. n (record { entry = x; among = entry-among (f .entry); named = f .named })) (h i x f)
-
-  abbrev NoSuchPiece : ℕ → ℕ → Type 0
-  NoSuchPiece a z = IsLive (entriesOf sp w) (nameOf a z) → ⊥
+  found-row s a z found Rest h f q = go f q (rw q at (told-right sp w s a z))
+    where
+      go : (f : Found) → findIn a z 0 (entriesOf sp w) ≡ f → Finds (sp .end) a z (entriesOf sp w) f
+          → NameRow sp w a z (whenNamed sp w found (namedAs f) .refusal) (Rest (whenNamed sp w found (namedAs f) .refusal))
+      go BeyondEnd q so = given so refl
+      go InFree q so = passed-on (not-before sp w s a z beyond-end _ q (omega arith)) (given so refl)
+      go InsideLive q so = passed-on (not-before sp w s a z beyond-end _ q (omega arith)) (passed-on (not-before sp w s a z in-free _ q (omega arith)) (given so refl))
+      go OtherSize q so =
+          passed-on (not-before sp w s a z beyond-end _ q (omega arith)) (passed-on (not-before sp w s a z in-free _ q (omega arith))
+          (passed-on (not-before sp w s a z inside-live _ q (omega arith)) (given so refl)))
+      go (At i x) q so =
+          passed-on (not-before sp w s a z beyond-end _ q (omega arith)) (passed-on (not-before sp w s a z in-free _ q (omega arith))
+          (passed-on (not-before sp w s a z inside-live _ q (omega arith)) (passed-on (not-before sp w s a z other-size _ q (omega arith)) (h i x so))))
 
   -- 2, and then what a sound table gives
   sound-row : (o : Outcome) (Rest : ℕ → Type 0) → (SoundSpace sp w → Rest (o .refusal))
@@ -109,11 +113,11 @@ module _ (sp : Space) (w : List ℕ) where
   module _ (a z : ℕ) (found : ℕ → Piece → Outcome) (Rest : ℕ → Type 0)
       (h : SoundSpace sp w → (i : ℕ) (x : Piece) → FoundAt a z (entriesOf sp w) i x → Rest (found i x .refusal)) where
     abbrev NamedRow : ℕ → Type 0
-    NamedRow r = Given r notLive (NoSuchPiece a z) (Rest r)
+    NamedRow r = NameRow sp w a z r (Rest r)
 
     naming-row : Given (naming sp w false a z found .refusal) notSound (SoundSpace sp w → ⊥) (NamedRow (naming sp w false a z found .refusal))
     unfolding naming namedIn refusing
-    naming-row = sound-row _ NamedRow (λ s. found-row a z found Rest (h s) (findLive a z 0 (entriesOf sp w)) refl)
+    naming-row = sound-row _ NamedRow (λ s. found-row s a z found Rest (h s) (findIn a z 0 (entriesOf sp w)) refl)
 
     asking-row : (m : ℕ)
         → Given (naming sp w (eqb z 0 || eqb m 0) a z found .refusal) notSound (SoundSpace sp w → ⊥)
@@ -122,7 +126,7 @@ module _ (sp : Space) (w : List ℕ) where
     asking-row m =
         sound-row _ (λ r. Given r zeroAsked (ZeroAsked z m) (NamedRow r))
         (λ s. first (λ r. whenNamed sp w found r .refusal) zeroAsked (Not NoBytes) _ refl NamedRow _ (zero-test z m) (test-zero z m)
-        (λ e. found-row a z found Rest (h s) (findLive a z 0 (entriesOf sp w)) refl))
+        (λ e. found-row s a z found Rest (h s) (findIn a z 0 (entriesOf sp w)) refl))
 
 -- ---- an extend and a shorten, behind the name
 
@@ -211,7 +215,7 @@ module _ (sp : Space) (w : List ℕ) (s : SoundSpace sp w) (c : Class) (n : ℕ)
   unfolding placed refusing placedAt
   placed-row =
       let found = place-found sp w s c n in
-      first placeRefusal beyondLimit _ _ refl (λ r. Given r tableFull (FullThere sp w c n) (r ≡ 0)) _ (beyond-end sp w s c n _ found)
+      first placeRefusal beyondLimit _ _ refl (λ r. Given r tableFull (FullThere sp w c n) (r ≡ 0)) _ (passes-limit sp w s c n _ found)
       (end-beyond sp w s c n _ found) (λ e. full-row)
 
 allocated-row : (sp : Space) (w : List ℕ) (t n : ℕ) → Row (allocates t n) sp w (allocated sp t n w .outcome .refusal)
@@ -277,15 +281,19 @@ same f (given h e) (passed-on g d) = absurd (g h)
 same f (passed-on h e) (given g d) = absurd (h g)
 same f (passed-on h e) (passed-on g d) = f e d
 
+same-name : (sp : Space) (w : List ℕ) (a z : ℕ) {r r' : ℕ} {R R' : Type 0} → (R → R' → r ≡ r') → NameRow sp w a z r R → NameRow sp w a z r' R'
+    → r ≡ r'
+same-name sp w a z f = same (same (same (same f)))
+
 zero-both : {r r' : ℕ} → r ≡ 0 → r' ≡ 0 → r ≡ r'
 zero-both e d = e ∙ sym d
 
 one-number : (c : Call) (sp : Space) (w : List ℕ) (r r' : ℕ) → Row c sp w r → Row c sp w r' → r ≡ r'
 one-number (opens P M) sp w r r' = same zero-both
 one-number (allocates t n) sp w r r' = same (same (same (same (same zero-both))))
-one-number (releases a z) sp w r r' = same (same (same zero-both))
-one-number (extends a z m) sp w r r' = same (same (same (same (same (same zero-both)))))
-one-number (shortens a z k) sp w r r' = same (same (same (same (same zero-both))))
+one-number (releases a z) sp w r r' = same (same-name sp w a z (same zero-both))
+one-number (extends a z m) sp w r r' = same (same (same-name sp w a z (same (same (same zero-both)))))
+one-number (shortens a z k) sp w r r' = same (same (same-name sp w a z (same (same zero-both))))
 
 pub exactly : Exactly
 exactly = record { calls = calls-row; listing = listed-row; one = one-number; one-listing = λ sp m w v r r'. same (same (same zero-both)) }

@@ -6,6 +6,7 @@ pub mod Keeps
 pub mod Edits
 pub mod Placing
 pub mod ConditionLaws
+pub mod Names
 pub mod Exactly
 pub mod Listings
 pub mod AnyOrder

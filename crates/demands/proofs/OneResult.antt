@@ -11,14 +11,16 @@ use mathlib.Core.List.{List}
 use mathlib.Core.Path.{_≡_, refl, sym, ap, _∙_}
 use lib.Dec.{eqb}
 use Rattle.demands.specs.Demands.{Unique, OneResult}
-use Rattle.refusals.specs.AnswerNumbers.{notSound, unknownCode, zeroAsked, beyondLimit, notLive, noRoomBehind, tooLittleLeft}
+use Rattle.refusals.specs.AnswerNumbers.{notSound, unknownCode, zeroAsked, beyondLimit, noRoomBehind, tooLittleLeft}
+use Rattle.refusals.specs.AnswerNumbers.{beyondEnd, inFree, insideLive, otherSize, notNamedNumber}
 use Rattle.refusals.specs.AnswerNumbers.{openNumber, allocateNumber, addressOf, releaseNumber, resizeNumber, listNumber, countOf}
 use Rattle.refusals.specs.declared.AllocateAnswer.{AllocateAnswer}
 use Rattle.refusals.specs.declared.ListAnswer.{ListAnswer}
 use Rattle.refusals.specs.declared.OpenAnswer.{OpenAnswer}
 use Rattle.refusals.specs.declared.ReleaseAnswer.{ReleaseAnswer}
 use Rattle.refusals.specs.declared.ResizeAnswer.{ResizeAnswer}
-use Rattle.refusals.specs.declared.NotNamed.the-variants.{NoBytes, NotLive}
+use Rattle.refusals.specs.declared.NotNamed.the-variants.{NoBytes, BeyondEnd, InFree, InsideLive, OtherSize}
+use Rattle.refusals.specs.declared.NotNamed.{NotNamed}
 use Rattle.refusals.specs.declared.NotResized.the-variants.{NoRoomBehind, BeyondLimit, TooLittleLeft}
 use Rattle.refusals.specs.declared.OpenAnswer.the-variants as opening
 use Rattle.refusals.specs.declared.AllocateAnswer.the-variants as allocating
@@ -51,21 +53,26 @@ allocateOf k a =
     (cond (eqb k unknownCode) allocating.UnknownType
     (cond (eqb k zeroAsked) allocating.NoBytes (cond (eqb k beyondLimit) allocating.BeyondLimit allocating.TableFull))))
 
+-- the reason why a piece is not named, in an answer; and else r
+namedOf : {R : Type 0} → (NotNamed → R) → R → ℕ → R
+namedOf answer r k =
+    cond (eqb k zeroAsked) (answer NoBytes)
+    (cond (eqb k beyondEnd) (answer BeyondEnd)
+    (cond (eqb k inFree) (answer InFree)
+    (cond (eqb k insideLive) (answer InsideLive) (cond (eqb k otherSize) (answer OtherSize) r))))
+
 releaseOf : ℕ → ReleaseAnswer
 releaseOf k =
-    cond (eqb k 0) releasing.Done
-    (cond (eqb k notSound) releasing.NotSound
-    (cond (eqb k zeroAsked) (releasing.NotNamed NoBytes) (cond (eqb k notLive) (releasing.NotNamed NotLive) releasing.TableFull)))
+    namedOf releasing.NotNamed (cond (eqb k 0) releasing.Done (cond (eqb k notSound) releasing.NotSound releasing.TableFull)) k
 
 resizeOf : ℕ → ResizeAnswer
 resizeOf k =
-    cond (eqb k 0) resizing.Done
+    namedOf resizing.NotNamed
+    (cond (eqb k 0) resizing.Done
     (cond (eqb k notSound) resizing.NotSound
-    (cond (eqb k zeroAsked) (resizing.NotNamed NoBytes)
-    (cond (eqb k notLive) (resizing.NotNamed NotLive)
     (cond (eqb k noRoomBehind) (resizing.NotResized NoRoomBehind)
     (cond (eqb k beyondLimit) (resizing.NotResized BeyondLimit)
-    (cond (eqb k tooLittleLeft) (resizing.NotResized TooLittleLeft) resizing.TableFull))))))
+    (cond (eqb k tooLittleLeft) (resizing.NotResized TooLittleLeft) resizing.TableFull))))) k
 
 listOf : ℕ → ℕ → ListAnswer
 listOf k count =
@@ -86,20 +93,26 @@ allocate-back allocating.NoBytes = refl
 allocate-back allocating.BeyondLimit = refl
 allocate-back allocating.TableFull = refl
 
+named-back : {R : Type 0} (answer : NotNamed → R) (r : R) (why : NotNamed) → namedOf answer r (notNamedNumber why) ≡ answer why
+unfolding namedOf
+named-back answer r NoBytes = refl
+named-back answer r BeyondEnd = refl
+named-back answer r InFree = refl
+named-back answer r InsideLive = refl
+named-back answer r OtherSize = refl
+
 release-back : (a : ReleaseAnswer) → releaseOf (releaseNumber a) ≡ a
-unfolding releaseOf
+unfolding releaseOf namedOf
 release-back releasing.Done = refl
 release-back releasing.NotSound = refl
-release-back (releasing.NotNamed NoBytes) = refl
-release-back (releasing.NotNamed NotLive) = refl
+release-back (releasing.NotNamed why) = named-back releasing.NotNamed _ why
 release-back releasing.TableFull = refl
 
 resize-back : (a : ResizeAnswer) → resizeOf (resizeNumber a) ≡ a
-unfolding resizeOf
+unfolding resizeOf namedOf
 resize-back resizing.Done = refl
 resize-back resizing.NotSound = refl
-resize-back (resizing.NotNamed NoBytes) = refl
-resize-back (resizing.NotNamed NotLive) = refl
+resize-back (resizing.NotNamed why) = named-back resizing.NotNamed _ why
 resize-back (resizing.NotResized NoRoomBehind) = refl
 resize-back (resizing.NotResized BeyondLimit) = refl
 resize-back (resizing.NotResized TooLittleLeft) = refl

@@ -17,14 +17,15 @@ use Rattle.choose.specs.declared.place.Place.{Place}
 use Rattle.demands.specs.Calls.{Call, called, refusalsOf, listRefusals, handedBack, OnSpace, allocating, releasing, extending, shortening}
 use Rattle.demands.specs.Calls.{opens, allocates, releases, extends, shortens}
 use Rattle.demands.specs.Demands.{Answered, accepted, refused, listOutcome, Refusals}
-use Rattle.find.specs.Find.{findLive}
+use Rattle.find.specs.Find.{findIn}
 use Rattle.find.specs.declared.Found.the-variants as finding
 use Rattle.find.specs.declared.Found.{Found}
 use Rattle.pages.proofs.Numbers.{not-both}
 use Rattle.pieces.specs.Pieces.{classOf}
 use Rattle.pieces.specs.declared.Class.{Class}
 use Rattle.pieces.specs.declared.Piece.{Piece}
-use Rattle.refusals.specs.AnswerNumbers.{outOfRange, notSound, zeroAsked, tableFull, notLive, noRoomBehind, beyondLimit, tooLittleLeft, noAddress}
+use Rattle.refusals.specs.AnswerNumbers.{outOfRange, notSound, zeroAsked, tableFull, noRoomBehind, beyondLimit, tooLittleLeft, noAddress}
+use Rattle.refusals.specs.AnswerNumbers.{beyondEnd, inFree, insideLive, otherSize}
 use Rattle.refusals.specs.declared.NotNamed.the-variants.{NoBytes}
 use Rattle.refusals.specs.declared.NotResized.the-variants.{NoRoomBehind, BeyondLimit, TooLittleLeft}
 use Rattle.room.specs.Room.{roomBehindb, growsBeyondb, remainsb}
@@ -48,6 +49,24 @@ use Rattle.table.specs.Local.{rangesb}
 
 here : {k : ℕ} {ks : List ℕ} → List·Memᴰ k (k ∷ ks)
 here = List·Memᴰ·head refl
+
+-- the refusals of a name are among the numbers ks
+record WrongNames (ks : List ℕ) : Type 0 where
+  beyond : List·Memᴰ beyondEnd ks
+  free : List·Memᴰ inFree ks
+  inside : List·Memᴰ insideLive ks
+  other : List·Memᴰ otherSize ks
+
+wrong-here : {ks : List ℕ} → WrongNames (beyondEnd ∷ inFree ∷ insideLive ∷ otherSize ∷ ks)
+wrong-here = record { beyond = here; free = on here; inside = on (on here); other = on (on (on here)) }
+
+wrong-on : {k : ℕ} {ks : List ℕ} → WrongNames ks → WrongNames (k ∷ ks)
+wrong-on n = record { beyond = on (n .beyond); free = on (n .free); inside = on (n .inside); other = on (n .other) }
+
+-- a number behind 2, 4 and those of a name
+past-names : {k : ℕ} {ks : List ℕ} → List·Memᴰ k ks
+    → List·Memᴰ k (notSound ∷ zeroAsked ∷ beyondEnd ∷ inFree ∷ insideLive ∷ otherSize ∷ ks)
+past-names h = on (on (on (on (on (on h)))))
 
 module _ {ks : List ℕ} {sp : Space} {w : List ℕ} where
   refused-answered : {k : ℕ} → List·Memᴰ k ks → Answered ks sp w (record { refusal = k; state = sp; words = w })
@@ -77,14 +96,17 @@ module _ {ks : List ℕ} {sp : Space} {w : List ℕ} where
 
   -- the front of the calls that name a piece; 4 is among the numbers where the call has that refusal
   naming-answered : (zero : Bool) (a z : ℕ) (found : ℕ → Piece → Outcome) → List·Memᴰ notSound ks → (zero ≡ true → List·Memᴰ zeroAsked ks)
-      → List·Memᴰ notLive ks → ((i : ℕ) (x : Piece) → Answered ks sp w (found i x)) → Answered ks sp w (naming sp w zero a z found)
+      → WrongNames ks → ((i : ℕ) (x : Piece) → Answered ks sp w (found i x)) → Answered ks sp w (naming sp w zero a z found)
   unfolding naming namedIn whenNamed
-  naming-answered zero a z found i j n h = refusing-answered _ i (named zero j (findLive a z 0 (entriesOf sp w)))
+  naming-answered zero a z found i j n h = refusing-answered _ i (named zero j (findIn a z 0 (entriesOf sp w)))
     where
       named : (t : Bool) → (t ≡ true → List·Memᴰ zeroAsked ks) → (f : Found) → Answered ks sp w (whenNamed sp w found (cond t (Not NoBytes) (namedAs f)))
       named true j f = refused-answered (j refl)
       named false j (finding.At k x) = h k x
-      named false j finding.Missing = refused-answered n
+      named false j finding.BeyondEnd = refused-answered (n .beyond)
+      named false j finding.InFree = refused-answered (n .free)
+      named false j finding.InsideLive = refused-answered (n .inside)
+      named false j finding.OtherSize = refused-answered (n .other)
 
   -- an extend's new size, by what its two tests say, and a shorten's
   longer-answered : (a z m : ℕ) (room beyond : Bool) → List·Memᴰ noRoomBehind ks → List·Memᴰ beyondLimit ks → List·Memᴰ tableFull ks
@@ -125,21 +147,22 @@ module _ (sp : Space) (w : List ℕ) where
   released-answered : (a z : ℕ) → Answered (refusalsOf (releases a z)) sp w (released sp a z w)
   unfolding released releasedAt
   released-answered a z =
-      naming-answered false a z (releasedAt sp a z w) here (λ e. absurd (not-both e refl)) (on here) (λ i x. settled-answered _ (on (on here)))
+      naming-answered false a z (releasedAt sp a z w) here (λ e. absurd (not-both e refl)) (wrong-on wrong-here)
+      (λ i x. settled-answered _ (on (on (on (on (on here))))))
 
   extended-answered : (a z m : ℕ) → Answered (refusalsOf (extends a z m)) sp w (extended sp a z m w)
   unfolding resized newSize
   extended-answered a z m =
-      naming-answered _ a z (resizedAt sp a z Longer m w) here (λ e. on here) (on (on here))
+      naming-answered _ a z (resizedAt sp a z Longer m w) here (λ e. on here) (wrong-on (wrong-on wrong-here))
       (λ i x. longer-answered a z m (roomBehindb (sp .page) (classOf (x .status)) (a + z) z m (entriesBehind sp w i))
       (growsBeyondb (sp .page) (sp .limit) (a + z) m (entriesBehind sp w i))
-      (on (on (on here))) (on (on (on (on here)))) (on (on (on (on (on here))))))
+      (past-names here) (past-names (on here)) (past-names (on (on here))))
 
   shortened-answered : (a z k : ℕ) → Answered (refusalsOf (shortens a z k)) sp w (shortened sp a z k w)
   unfolding resized newSize
   shortened-answered a z k =
-      naming-answered _ a z (resizedAt sp a z Shorter k w) here (λ e. on here) (on (on here))
-      (λ i x. shorter-answered a z k (remainsb (sp .page) (classOf (x .status)) z k) (on (on (on here))) (on (on (on (on here)))))
+      naming-answered _ a z (resizedAt sp a z Shorter k w) here (λ e. on here) (wrong-on (wrong-on wrong-here))
+      (λ i x. shorter-answered a z k (remainsb (sp .page) (classOf (x .status)) z k) (past-names here) (past-names (on here)))
 
 calls-answered : (c : Call) (sp : Space) (w : List ℕ) → Answered (refusalsOf c) (handedBack c sp) w (called c sp w)
 unfolding called

@@ -10,7 +10,7 @@ use Rattle.choose.specs.Place.{largePlaceFor, smallPlaceFor, placeFor}
 use Rattle.demands.specs.Calls.{called, ran}
 use Rattle.demands.specs.Demands.{TheRun}
 use Rattle.demands.specs.Run.{answered, played, callsOf, fiveSteps, twelveSteps, exchangedSteps, leftAfterFive, leftAfterTwelve, begun}
-use Rattle.find.specs.Find.{namedb, findLive}
+use Rattle.find.specs.Find.{holdsb, toldOf, findIn}
 use Rattle.pages.specs.Pages.{down, up}
 use Rattle.pieces.specs.Pieces.{statusOf}
 use Rattle.pieces.specs.Words.{entryAt, entries, words, table}
@@ -45,7 +45,7 @@ from-start : FromStart
 unfolding down up statusOf entryAt entries words table
     lives free lo hi gap fillFrom fill lastEnd endOf
     tableLengthb rangesb kindsb zerosb shapeb besideb cutb entryb chainb localb
-    roomIn fitsIn bestOf best largePlaceFor smallPlaceFor placeFor classFor namedb findLive
+    roomIn fitsIn bestOf best largePlaceFor smallPlaceFor placeFor classFor holdsb toldOf findIn
     smallRoomb largeRoomb roomBehindb growsBeyondb remainsb
     insert remove resize refusing settled placedAt placed allocated
     namedIn whenNamed naming releasedAt released newSize resizedTo resized

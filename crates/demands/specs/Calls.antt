@@ -2,7 +2,7 @@
 --
 --   Call                 a call with its arguments, but for the state and the lent table
 --   called c sp w        what it leaves: refusal number, state, every word of the table
---   refusalsOf c         the numbers with which it may be refused, in document 01's order; listRefusals those of a listing
+--   refusalsOf c         the numbers with which it may be refused, in their order; listRefusals those of a listing
 --   handedBack c sp      the state that it hands back if it is refused: the given one, but of an opening four zeros
 --   OnSpace c            it takes a state: it is not an opening
 --   Ran                  what a run of calls leaves: the refusal number of each, and state and words after the last
@@ -25,7 +25,7 @@ use Rattle.pieces.specs.Pieces.{piece}
 use Rattle.pieces.specs.declared.Piece.{Piece}
 use Rattle.pieces.specs.declared.Status.the-variants.{Live}
 use Rattle.refusals.specs.AnswerNumbers.{outOfRange, notSound, unknownCode, zeroAsked, beyondLimit, tableFull}
-use Rattle.refusals.specs.AnswerNumbers.{notLive, noRoomBehind, tooLittleLeft, sliceTooShort}
+use Rattle.refusals.specs.AnswerNumbers.{beyondEnd, inFree, insideLive, otherSize, noRoomBehind, tooLittleLeft, sliceTooShort}
 use Rattle.requests.specs.Requests.{classFor}
 use Rattle.rules.specs.Editing.{Name, insert, remove, resize}
 use Rattle.space.specs.Giving.{nameOf, released, extended, shortened}
@@ -59,9 +59,10 @@ called (shortens a z k) sp w = shortened sp a z k w
 abbrev pub refusalsOf : Call → List ℕ
 refusalsOf (opens P M) = outOfRange ∷ []
 refusalsOf (allocates t s) = notSound ∷ unknownCode ∷ zeroAsked ∷ beyondLimit ∷ tableFull ∷ []
-refusalsOf (releases a z) = notSound ∷ notLive ∷ tableFull ∷ []
-refusalsOf (extends a z m) = notSound ∷ zeroAsked ∷ notLive ∷ noRoomBehind ∷ beyondLimit ∷ tableFull ∷ []
-refusalsOf (shortens a z k) = notSound ∷ zeroAsked ∷ notLive ∷ tooLittleLeft ∷ tableFull ∷ []
+refusalsOf (releases a z) = notSound ∷ beyondEnd ∷ inFree ∷ insideLive ∷ otherSize ∷ tableFull ∷ []
+refusalsOf (extends a z m) =
+    notSound ∷ zeroAsked ∷ beyondEnd ∷ inFree ∷ insideLive ∷ otherSize ∷ noRoomBehind ∷ beyondLimit ∷ tableFull ∷ []
+refusalsOf (shortens a z k) = notSound ∷ zeroAsked ∷ beyondEnd ∷ inFree ∷ insideLive ∷ otherSize ∷ tooLittleLeft ∷ tableFull ∷ []
 
 abbrev pub listRefusals : List ℕ
 listRefusals = notSound ∷ unknownCode ∷ sliceTooShort ∷ []

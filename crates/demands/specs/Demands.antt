@@ -6,6 +6,7 @@
 --   Edits           an accepted call inserts, removes or resizes one live piece, and no other changes
 --   NewBytes        a new piece, and what an extend adds, lies in bytes that were in no live piece
 --   Placing         the place is the smallest fitting section, the lowest of equals, else the end; there is one such place
+--   OneOfFive       of an address and a size exactly one of five is so in a sound table: they name a live piece, or one of 13 to 16
 --   Exactly         each refusal is given exactly when the table of numbered refusals says, in its order
 --   Listings        an accepted listing writes the free sections of the manager, all of them and no other, in address order
 --   Runs            from an accepted opening on every run of calls keeps state and table sound
@@ -22,6 +23,7 @@
 --   KeptSound sp w next v   next and v are sound together and cover the file, with P, M and the slice's length of sp and w
 --   Accepted c sp w         the call c is accepted of a sound table
 --   NotLive sp w a b        the bytes from a up to b are in no live piece
+--   OneCase sp w a z        exactly one of the five cases is so of a and z
 --   ListedAll sp m w v      a listing wrote address and size of each free section of the manager, in address order, and returns their count
 --   Releasable sp w ns      state and table are sound together, and ns are distinct live pieces by their true address and size
 --   acceptedAll sp w k ps   k calls are accepted, and leave the state and every word that the live pieces ps determine
@@ -36,7 +38,7 @@ use lib.ListN.{length, replicate}
 use Rattle.accepted.specs.Places.{PlaceIs}
 use Rattle.demands.specs.Calls.{Call, allocates, extends, livesAfter, edited, Unnamed, called, refusalsOf, listRefusals, handedBack, OnSpace}
 use Rattle.demands.specs.Calls.{Ran, ran, releasesOf, removeAll, IsLive, Distinct}
-use Rattle.demands.specs.Rows.{Row, ListRow}
+use Rattle.demands.specs.Rows.{NameCase, IsSo, Row, ListRow}
 use Rattle.demands.specs.Run.{fiveSteps, twelveSteps, exchangedSteps, leftAfterFive, leftAfterTwelve, begun, playedOver, ranOver}
 use Rattle.pieces.specs.Words.{entryAt, table}
 use Rattle.pieces.specs.declared.Class.{Class}
@@ -124,6 +126,14 @@ pub record Placing : Type 0 where
       → PlaceIs (sp .page) (sp .end) (classFor (sp .page) t s) s (entriesOf sp w) (allocated sp t s w .address)
   pub one : (sp : Space) (w : List ℕ) → SoundSpace sp w → (k : Class) (s b d : ℕ) → PlaceIs (sp .page) (sp .end) k s (entriesOf sp w) b
       → PlaceIs (sp .page) (sp .end) k s (entriesOf sp w) d → b ≡ d
+
+pub record OneCase (sp : Space) (w : List ℕ) (a z : ℕ) : Type 0 where
+  pub case : NameCase
+  pub so : IsSo sp w a z case
+  pub alone : (other : NameCase) → IsSo sp w a z other → other ≡ case
+
+abbrev pub OneOfFive : Type 0
+OneOfFive = (sp : Space) (w : List ℕ) → SoundSpace sp w → (a z : ℕ) → OneCase sp w a z
 
 pub record Exactly : Type 0 where
   pub calls : (c : Call) (sp : Space) (w : List ℕ) → Row c sp w (called c sp w .refusal)

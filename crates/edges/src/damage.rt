@@ -16,7 +16,7 @@ use show::text::say;
 use show::text::say_line;
 use show::text::say_nth;
 use show::text::say_number;
-use space::answers::NOT_LIVE;
+use space::answers::BEYOND_END;
 use space::answers::NOT_SOUND;
 use space::answers::UNKNOWN_CODE;
 use space::answers::ZERO_ASKED;
@@ -51,7 +51,7 @@ fn all_refuse(s: Scene, allocate: u64, release: u64, change: u64, list: u64) -> 
     if !is_refused(s, Call::Allocate(9, 1), allocate) {
         return false;
     }
-    if !is_refused(s, Call::Release(0, 1), release) {
+    if !is_refused(s, Call::Release(LARGEST, 1), release) {
         return false;
     }
     if !is_refused(s, Call::Extend(0, 96, 0), change) {
@@ -68,7 +68,7 @@ fn is_broken(s: Scene) -> bool {
 }
 
 fn is_sound(s: Scene) -> bool {
-    all_refuse(s, UNKNOWN_CODE, NOT_LIVE, ZERO_ASKED, UNKNOWN_CODE)
+    all_refuse(s, UNKNOWN_CODE, BEYOND_END, ZERO_ASKED, UNKNOWN_CODE)
 }
 
 // The kind of an entry; of one that a scene has no words for, none.

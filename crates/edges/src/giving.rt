@@ -1,4 +1,4 @@
-// Giving back, lengthening, shortening: refusals 4, 5, 7, 8, 9 from both sides (2 is with the damaged tables, 6 with the full ones).
+// Giving back, lengthening, shortening: refusals 4, 5, 8, 9 and 13 to 16 from both sides (2 is with the damaged tables, 6 with the full ones).
 use crate::cases::added;
 use crate::cases::done;
 use crate::cases::leaves;
@@ -25,29 +25,54 @@ fn after_step_six() -> Scene {
 
 fn releases(t: Tally) -> Tally {
     let c: &[u8] = b"release (1024, 700), a live piece, is done\n\
-                     release of a byte less is refused 7\n\
-                     release of a byte more is refused 7\n\
-                     release from a byte before is refused 7\n\
-                     release from a byte behind is refused 7\n\
-                     release of a free entry is refused 7\n\
-                     release of size 0 is refused 7\n\
-                     release of 2^64 - 1 bytes is refused 7\n\
-                     release at 2^64 - 1 is refused 7\n\
-                     release of a zero entry behind the table is refused 7\n\
-                     a second release of the same piece is refused 7";
+                     release of a byte less is refused 16\n\
+                     release of a byte more is refused 16\n\
+                     release from a byte before, which is free, is refused 14\n\
+                     release from a byte behind, inside the piece, is refused 15\n\
+                     release of a free entry is refused 14\n\
+                     release of size 0 at a live piece's start is refused 16\n\
+                     release of 2^64 - 1 bytes is refused 16\n\
+                     release at 2^64 - 1 is refused 13\n\
+                     release of a zero entry behind the table is refused 16, as (0, 0)\n\
+                     a second release of the same piece is refused 14, where E stays";
     let s = scenes::five();
     let t = leaves(t, c, 0, s, Call::Release(1024, 700), after_step_six());
-    let t = refuses(t, c, 1, s, Call::Release(1024, 699), 7);
-    let t = refuses(t, c, 2, s, Call::Release(1024, 701), 7);
-    let t = refuses(t, c, 3, s, Call::Release(1023, 700), 7);
-    let t = refuses(t, c, 4, s, Call::Release(1025, 700), 7);
-    let t = refuses(t, c, 5, s, Call::Release(612, 412), 7);
-    let t = refuses(t, c, 6, s, Call::Release(1024, 0), 7);
-    let t = refuses(t, c, 7, s, Call::Release(0, LARGEST), 7);
-    let t = refuses(t, c, 8, s, Call::Release(LARGEST, LARGEST), 7);
-    let t = refuses(t, c, 9, s, Call::Release(0, 0), 7);
+    let t = refuses(t, c, 1, s, Call::Release(1024, 699), 16);
+    let t = refuses(t, c, 2, s, Call::Release(1024, 701), 16);
+    let t = refuses(t, c, 3, s, Call::Release(1023, 700), 14);
+    let t = refuses(t, c, 4, s, Call::Release(1025, 700), 15);
+    let t = refuses(t, c, 5, s, Call::Release(612, 412), 14);
+    let t = refuses(t, c, 6, s, Call::Release(1024, 0), 16);
+    let t = refuses(t, c, 7, s, Call::Release(0, LARGEST), 16);
+    let t = refuses(t, c, 8, s, Call::Release(LARGEST, LARGEST), 13);
+    let t = refuses(t, c, 9, s, Call::Release(0, 0), 16);
     let s = scene::after(s, Call::Release(1024, 700));
-    refuses(t, c, 10, s, Call::Release(1024, 700), 7)
+    refuses(t, c, 10, s, Call::Release(1024, 700), 14)
+}
+
+// Where an address lies, at the edges of entries: a file that ends in a free entry, one that ends in a live one, and one of no bytes.
+fn wrong_names(t: Tally) -> Tally {
+    let c: &[u8] = b"the last byte of a free entry, at E - 1, is refused 14\n\
+                     its first byte is refused 14\n\
+                     the byte at E is refused 13\n\
+                     the second byte of a live piece is refused 15\n\
+                     its last byte is refused 15\n\
+                     the last byte of a live piece, at E - 1, is refused 15\n\
+                     the byte at E behind it is refused 13\n\
+                     a second release of the last piece is refused 13, where E was cut\n\
+                     with E = 0 every name is refused 13";
+    let s = scenes::five();
+    let t = refuses(t, c, 0, s, Call::Release(2559, 1), 14);
+    let t = refuses(t, c, 1, s, Call::Release(2058, 502), 14);
+    let t = refuses(t, c, 2, s, Call::Release(2560, 502), 13);
+    let t = refuses(t, c, 3, s, Call::Release(2049, 9), 15);
+    let t = refuses(t, c, 4, s, Call::Release(2057, 1), 15);
+    let last = one(s, 512, 3);
+    let t = refuses(t, c, 5, last, Call::Release(511, 1), 15);
+    let t = refuses(t, c, 6, last, Call::Release(512, 512), 13);
+    let s = scene::after(s, Call::Release(2048, 10));
+    let t = refuses(t, c, 7, s, Call::Release(2048, 10), 13);
+    refuses(t, c, 8, scenes::empty(), Call::Release(0, 0), 13)
 }
 
 fn part_pages(t: Tally) -> Tally {
@@ -134,20 +159,22 @@ fn extends_named(t: Tally) -> Tally {
     let c: &[u8] = b"extending by 0 is refused 4\n\
                      extending by 1 is done\n\
                      extending a piece of size 0 is refused 4\n\
-                     extending no piece by 0 is 4 before 7\n\
-                     extending a piece named a byte shorter is refused 7\n\
-                     extending a free entry is refused 7\n\
-                     extending a piece of 2^64 - 1 bytes is refused 7\n\
-                     extending a piece at 2^64 - 1 is refused 7";
+                     extending no piece by 0 is 4 before 15\n\
+                     extending a piece named a byte shorter is refused 16\n\
+                     extending a free entry is refused 14\n\
+                     extending from inside a piece is refused 15\n\
+                     extending a piece of 2^64 - 1 bytes is refused 16\n\
+                     extending a piece at 2^64 - 1 is refused 13";
     let s = scenes::five();
     let t = refuses(t, c, 0, s, Call::Extend(1024, 700, 0), 4);
     let t = done(t, c, 1, s, Call::Extend(1024, 700, 1), 2560);
     let t = refuses(t, c, 2, s, Call::Extend(1024, 0, 1), 4);
     let t = refuses(t, c, 3, s, Call::Extend(1, 1, 0), 4);
-    let t = refuses(t, c, 4, s, Call::Extend(1024, 699, 1), 7);
-    let t = refuses(t, c, 5, s, Call::Extend(1724, 324, 1), 7);
-    let t = refuses(t, c, 6, s, Call::Extend(0, LARGEST, LARGEST), 7);
-    refuses(t, c, 7, s, Call::Extend(LARGEST, 1, 1), 7)
+    let t = refuses(t, c, 4, s, Call::Extend(1024, 699, 1), 16);
+    let t = refuses(t, c, 5, s, Call::Extend(1724, 324, 1), 14);
+    let t = refuses(t, c, 6, s, Call::Extend(1025, 699, 1), 15);
+    let t = refuses(t, c, 7, s, Call::Extend(0, LARGEST, LARGEST), 16);
+    refuses(t, c, 8, s, Call::Extend(LARGEST, 1, 1), 13)
 }
 
 fn extends_large(t: Tally) -> Tally {
@@ -191,18 +218,22 @@ fn shortens_named(t: Tally) -> Tally {
     let c: &[u8] = b"shortening by 0 is refused 4\n\
                      shortening by 1 is done\n\
                      shortening a piece of size 0 is refused 4\n\
-                     shortening no piece by 0 is 4 before 7\n\
-                     shortening a piece named a byte longer is refused 7\n\
-                     shortening a free entry is refused 7\n\
-                     shortening a piece of 2^64 - 1 bytes is refused 7";
+                     shortening no piece by 0 is 4 before 15\n\
+                     shortening a piece named a byte longer is refused 16\n\
+                     shortening a free entry is refused 14\n\
+                     shortening from inside a piece is refused 15\n\
+                     shortening a piece of 2^64 - 1 bytes is refused 16\n\
+                     shortening a piece at E is refused 13";
     let s = scenes::five();
     let t = refuses(t, c, 0, s, Call::Shorten(1024, 700, 0), 4);
     let t = done(t, c, 1, s, Call::Shorten(1024, 700, 1), 2560);
     let t = refuses(t, c, 2, s, Call::Shorten(1024, 0, 1), 4);
     let t = refuses(t, c, 3, s, Call::Shorten(1, 1, 0), 4);
-    let t = refuses(t, c, 4, s, Call::Shorten(1024, 701, 1), 7);
-    let t = refuses(t, c, 5, s, Call::Shorten(612, 412, 1), 7);
-    refuses(t, c, 6, s, Call::Shorten(0, LARGEST, LARGEST), 7)
+    let t = refuses(t, c, 4, s, Call::Shorten(1024, 701, 1), 16);
+    let t = refuses(t, c, 5, s, Call::Shorten(612, 412, 1), 14);
+    let t = refuses(t, c, 6, s, Call::Shorten(1723, 1, 1), 15);
+    let t = refuses(t, c, 7, s, Call::Shorten(0, LARGEST, LARGEST), 16);
+    refuses(t, c, 8, s, Call::Shorten(2560, 1, 1), 13)
 }
 
 fn shortens(t: Tally) -> Tally {
@@ -236,7 +267,7 @@ fn shortens(t: Tally) -> Tally {
 }
 
 pub fn all(t: Tally) -> Tally {
-    let t = part_pages(releases(t));
+    let t = part_pages(wrong_names(releases(t)));
     let t = extends_at_border(extends_small(t));
     let t = extends_large(extends_named(t));
     shortens(shortens_named(t))

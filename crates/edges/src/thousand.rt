@@ -34,13 +34,13 @@ fn with_page(s: Scene, size: u64, rest: u64) -> Scene {
 fn releases(t: Tally) -> Tally {
     let c: &[u8] = b"P = 1000: release (2000, 100) cuts one page, and a part page stays\n\
                      P = 1000: release (0, 1500) merges it with the part page behind it\n\
-                     P = 1000: release of a byte less is refused 7";
+                     P = 1000: release of a byte less is refused 16";
     let s = large_and_small();
     let w = two(s, 1500, 3, 500, 6);
     let t = leaves(t, c, 0, s, Call::Release(2000, 100), w);
     let w = with_page(one(s, 2000, 6), 100, 900);
     let t = leaves(t, c, 1, s, Call::Release(0, 1500), w);
-    refuses(t, c, 2, s, Call::Release(2000, 99), 7)
+    refuses(t, c, 2, s, Call::Release(2000, 99), 16)
 }
 
 fn extends(t: Tally) -> Tally {

@@ -1,163 +1,147 @@
--- Laws of the named piece.
+-- Laws of what an address and a size name.
 --
--- In this order: the test, after each comparison; a turn of the walk; the test and `Named`; every right answer is the
--- walk's; there is one; the statements FindsRight and OneNamed of specs/Find.antt, and what a caller learns from an answer.
+-- In this order: the test whether an address lies in an entry; what is told where it does; entries that tile, where one entry holds an address
+-- below the end, and none one beyond it; the statement FindsRight of specs/Find.antt, and what a caller learns from an answer.
 --
+-- Not here: the way to the entry (WalkLaws.antt).
 -- Assumes nothing.
-use Prim.Native.Nat.{ℕ, suc, _+_, _-_, _≤_, _<_}
-use mathlib.Core.Bool.{Bool, true, false, not, _&&_}
-use mathlib.Core.List.{List, [], _∷_}
+use Prim.Native.Nat.{ℕ, suc, _+_, _≤_, _<_}
+use mathlib.Core.Bool.{Bool, true, false}
+use mathlib.Core.List.{List, List·Memᴰ}
 use mathlib.Core.Path.{_≡_, refl, sym, ap, subst, _∙_}
 use native.Mathlib.Nat.{zero-add, add-zero}
 use native.Mathlib.Omega.{arith}
-use lib.Dec.{eqb}
-use borrow.Author.Tests.{eq-eqb, ne-eqb, eqb-true}
-use Rattle.find.specs.Find.{namedb, findLive, Named, NoneNamed, FoundAt, Finds, FindsRight, OneNamed}
-use Rattle.find.specs.declared.Found.the-variants.{At, Missing}
+use lib.Dec.{leb, eqb}
+use borrow.Author.Tests.{lt-ltb, le-ltb, le-leb, lt-leb, eq-eqb, ne-eqb, eqb-true, eqb-false}
+use Rattle.find.specs.Find.{holdsb, toldOf, findIn, LiesIn, FoundAt, Finds, FindsRight}
+use Rattle.find.specs.declared.Found.the-variants.{At, BeyondEnd, InFree, InsideLive, OtherSize}
 use Rattle.find.specs.declared.Found.{Found}
-use Rattle.pages.proofs.Numbers.{and-left, and-right, not-both, split}
-use Rattle.pieces.proofs.PieceLaws.{entry-lt}
-use Rattle.pieces.proofs.WordLaws.{entries-next, entries-none}
-use Rattle.pieces.specs.Pieces.{classOf, freeb, EntryIs, entry-here, entry-later}
-use Rattle.pieces.specs.Words.{entryAt, entries}
+use Rattle.pages.proofs.Numbers.{split, and-false}
+use Rattle.pieces.proofs.PieceLaws.{entry-among, entry-number, entry-got}
+use Rattle.pieces.specs.Pieces.{piece, IsFree, is-free, freeb, behind, EntryIs, entry-here, entry-later}
 use Rattle.pieces.specs.declared.Piece.{Piece}
 use Rattle.pieces.specs.declared.Status.the-variants.{Live, Free}
 use Rattle.pieces.specs.declared.Status.{Status}
+use Rattle.table.proofs.TilingLaws.{nothing, entry-above, covered, tiles-from}
+use Rattle.table.specs.Sound.{Tiles, tiled, tile, SoundEntries}
+use Rattle.table.specs.Theorems.{Holds}
 
--- ---- the test
+-- ---- whether an address lies in an entry
 
-pub other-address : (a z : ℕ) (x : Piece) → (x .address ≡ a → ⊥) → namedb a z x ≡ false
-unfolding namedb
-other-address a z x n = rw (ne-eqb (x .address) a n)
+pub lies : (a : ℕ) (x : Piece) → Holds x a → holdsb a x ≡ true
+unfolding holdsb
+lies a x h = rw (le-leb (x .address) a (h .from), lt-ltb a (behind x) (h .to))
 
-pub other-size : (a z : ℕ) (x : Piece) → x .address ≡ a → (x .size ≡ z → ⊥) → namedb a z x ≡ false
-unfolding namedb
-other-size a z x e n = rw (eq-eqb (x .address) a e, ne-eqb (x .size) z n)
+pub lies-before : (a : ℕ) (x : Piece) → a < x .address → holdsb a x ≡ false
+unfolding holdsb
+lies-before a x h = rw (lt-leb (x .address) a h)
 
-pub named-by-status : (a z : ℕ) (x : Piece) → x .address ≡ a → x .size ≡ z → namedb a z x ≡ not (freeb (x .status))
-unfolding namedb
-named-by-status a z x e f = rw (eq-eqb (x .address) a e, eq-eqb (x .size) z f)
+pub lies-behind : (a : ℕ) (x : Piece) → behind x ≤ a → holdsb a x ≡ false
+unfolding holdsb
+lies-behind a x h = and-false (leb (x .address) a) (le-ltb a (behind x) h)
 
--- ---- a turn of the walk
+-- ---- what is told where it does
 
-module _ (a z : ℕ) (w : List ℕ) (n i : ℕ) where
-  pub find-next : (x : Piece) → i < n → x ≡ entryAt w i → namedb a z x ≡ false
-      → findLive a z i (entries w i (n - i)) ≡ findLive a z (i + 1) (entries w (i + 1) (n - (i + 1)))
-  unfolding findLive
-  find-next x lt is not-it = rw (entries-next w n i lt, ← is, not-it)
+module _ (a z i : ℕ) (x : Piece) where
+  pub told-free : freeb (x .status) ≡ true → toldOf a z i x ≡ InFree
+  unfolding toldOf
+  told-free f = rw f
 
-  pub find-here : (x : Piece) → i < n → x ≡ entryAt w i → namedb a z x ≡ true → findLive a z i (entries w i (n - i)) ≡ At i x
-  unfolding findLive
-  find-here x lt is it = rw (entries-next w n i lt, ← is, it)
+  module _ (live : freeb (x .status) ≡ false) where
+    pub told-inside : (x .address ≡ a → ⊥) → toldOf a z i x ≡ InsideLive
+    unfolding toldOf
+    told-inside n = rw (live, ne-eqb (x .address) a n)
 
-  pub find-end : n ≤ i → findLive a z i (entries w i (n - i)) ≡ Missing
-  unfolding findLive
-  find-end le = rw (entries-none w n i le)
+    pub told-other : x .address ≡ a → (x .size ≡ z → ⊥) → toldOf a z i x ≡ OtherSize
+    unfolding toldOf
+    told-other e n = rw (live, eq-eqb (x .address) a e, ne-eqb (x .size) z n)
 
--- ---- the test and the second description
+    pub told-at : x .address ≡ a → x .size ≡ z → toldOf a z i x ≡ At i x
+    unfolding toldOf
+    told-at e f = rw (live, eq-eqb (x .address) a e, eq-eqb (x .size) z f)
 
-is-live : (s : Status) → not (freeb s) ≡ true → s ≡ Live (classOf s)
-is-live (Live c) h = refl
-is-live (Free c) h = absurd (not-both h refl)
-
-pub named-true : (a z : ℕ) (x : Piece) → namedb a z x ≡ true → Named a z x
-unfolding namedb
-named-true a z x h =
-    let t : Bool = eqb (x .size) z in
-    let u : Bool = not (freeb (x .status)) in
-    let r : (t && u) ≡ true = and-right (eqb (x .address) a) (t && u) h in
-    record {
-      class = classOf (x .status);
-      live = is-live (x .status) (and-right t u r);
-      address = eqb-true (x .address) a (and-left (eqb (x .address) a) (t && u) h);
-      size = eqb-true (x .size) z (and-left t u r);
-    }
-
-pub true-named : (a z : ℕ) (x : Piece) → Named a z x → namedb a z x ≡ true
-true-named a z x h =
-    let e : not (freeb (x .status)) ≡ true = rw (h .live) in
-    named-by-status a z x (h .address) (h .size) ∙ e
-
-named-false : (a z : ℕ) (x : Piece) → (Named a z x → ⊥) → namedb a z x ≡ false
-named-false a z x n = go (namedb a z x) refl
-  where
-    go : (t : Bool) → namedb a z x ≡ t → namedb a z x ≡ false
-    go true e = absurd (n (named-true a z x e))
-    go false e = e
-
-false-named : (a z : ℕ) (x : Piece) → namedb a z x ≡ false → Named a z x → ⊥
-false-named a z x e h = not-both (true-named a z x h) e
-
--- ---- every right answer is the walk's
+-- ---- entries that tile
 
 module _ (a z : ℕ) where
-  walk-at : {es : List Piece} {k : ℕ} {x : Piece} → EntryIs es k x → (i : ℕ) → Named a z x
-      → ((j : ℕ) (y : Piece) → j < k → EntryIs es j y → Named a z y → ⊥) → findLive a z i es ≡ At (i + k) x
-  unfolding findLive
-  walk-at {x = x} entry-here i h first = rw (true-named a z x h, add-zero i)
-  walk-at {x = x} (entry-later {y = y} {es = es} {i = k} e) i h first =
-      let r : findLive a z (i + 1) es ≡ At (i + 1 + k) x = walk-at e (i + 1) h (λ j v lt en. first (suc j) v (omega arith) (entry-later en)) in
+  -- the entry in which the address lies decides
+  by-entry : {E b : ℕ} {es : List Piece} {k : ℕ} {x : Piece} → Tiles E b es → EntryIs es k x → Holds x a → (i : ℕ)
+      → findIn a z i es ≡ toldOf a z (i + k) x
+  unfolding findIn
+  by-entry (tile r) (entry-here {x = x}) h i = rw (lies a x h, add-zero i)
+  by-entry (tile r) (entry-later {x = x} {y = y} {i = k} e) h i =
       let s : i + 1 + k ≡ i + suc k = omega arith in
-      rw (named-false a z y (first 0 y (omega arith) entry-here)) (r ∙ ap (λ (m : ℕ). At m x) s)
+      rw (lies-behind a y (omega (arith, entry-above r e, h .from))) (by-entry r e h (i + 1) ∙ ap (λ (m : ℕ). toldOf a z m x) s)
 
-  walk-missing : (es : List Piece) (i : ℕ) → NoneNamed a z es → findLive a z i es ≡ Missing
-  unfolding findLive
-  walk-missing [] i h = refl
-  walk-missing (y ∷ es) i h = rw (named-false a z y (h 0 y entry-here)) (walk-missing es (i + 1) (λ j v e. h (suc j) v (entry-later e)))
+  beyond : {E b : ℕ} {es : List Piece} → Tiles E b es → E ≤ a → (i : ℕ) → findIn a z i es ≡ BeyondEnd
+  unfolding findIn
+  beyond (tiled e) h i = refl
+  beyond (tile {a = b} {z = s} {t = t} r) h i = rw (lies-behind a (piece b s t) (omega (arith, tiles-from r))) (beyond r h (i + 1))
 
-  only : (es : List Piece) (r : Found) → Finds a z es r → r ≡ findLive a z 0 es
-  only es (At i x) h = sym (walk-at (h .entry) 0 (h .named) (h .first) ∙ ap (λ (m : ℕ). At m x) (zero-add i))
-  only es Missing h = sym (walk-missing es 0 h)
+-- ---- the statement
 
-  -- ---- there is a right answer
+module _ {P E : ℕ} (a z : ℕ) {es : List Piece} (rules : SoundEntries P E es) where
+  told-by : {k : ℕ} {x : Piece} → EntryIs es k x → Holds x a → findIn a z 0 es ≡ toldOf a z k x
+  told-by {k} {x} e h = by-entry a z (rules .tiling) e h 0 ∙ ap (λ (m : ℕ). toldOf a z m x) (zero-add k)
 
-  not-behind : {x : Piece} {es : List Piece} {i : ℕ} {y : Piece} → (Named a z x → ⊥) → EntryIs (x ∷ es) i y
-      → ((j : ℕ) → suc j ≤ i → EntryIs es j y → Named a z y → ⊥) → Named a z y → ⊥
-  not-behind n entry-here h m = n m
-  not-behind n (entry-later {i = j} e) h m = h j (omega arith) e m
+  -- an entry that is so decides: f is what it makes the walk tell
+  so-told : {Is : Piece → Type 0} {r : Found} → ((k : ℕ) (x : Piece) → Is x → toldOf a z k x ≡ r) → LiesIn a es Is → r ≡ findIn a z 0 es
+  so-told f l = let n = entry-number (l .among) in sym (told-by (n .1) (l .holds) ∙ f (n .0) (l .entry) (l .is))
 
-  -- an answer, with the proof that it is right
-  data Answer (es : List Piece) : Type 0 where
-    right : (r : Found) → Finds a z es r → Answer es
+  starts-in : {x : Piece} → List·Memᴰ x es → x .address ≡ a → Holds x a
+  starts-in {x} m e = record { from = omega arith; to = omega (arith, rules .filled x m) }
 
-  behind-it : (x : Piece) (es : List Piece) → (Named a z x → ⊥) → Answer es → Answer (x ∷ es)
-  behind-it x es n (right (At i y) f) =
-      right (At (suc i) y)
-      (record {
-        entry = entry-later (f .entry);
-        named = f .named;
-        first = λ k v lt e. not-behind n e (λ j l en. f .first j v (omega arith) en);
-      })
-  behind-it x es n (right Missing h) = right Missing (λ k v e. not-behind n e (λ j l en. h j v en))
-
-  answer : (es : List Piece) → Answer es
-  answer [] = right Missing (λ i x e m. absurd (omega (arith, entry-lt e)))
-  answer (x ∷ es) = go (namedb a z x) refl (answer es)
+  only : (r : Found) → Finds E a z es r → r ≡ findIn a z 0 es
+  only (At i x) h =
+      let named = h .named in
+      sym (told-by (h .entry) (starts-in (entry-among (h .entry)) (named .address)) ∙ told-at a z i x (rw (named .live)) (named .address) (named .size))
+  only BeyondEnd h = sym (beyond a z (rules .tiling) h 0)
+  only InFree h = so-told (λ k x f. told-free a z k x (free-true f)) h
     where
-      go : (t : Bool) → namedb a z x ≡ t → Answer es → Answer (x ∷ es)
-      go true e rest = right (At 0 x) (record { entry = entry-here; named = named-true a z x e; first = λ k y lt en m. absurd (omega arith) })
-      go false e rest = behind-it x es (false-named a z x e) rest
+      free-true : {s : Status} → IsFree s → freeb s ≡ true
+      free-true is-free = refl
+  only InsideLive h = so-told (λ k x n. told-inside a z k x (rw (n .live)) (n .elsewhere)) h
+  only OtherSize h = so-told (λ k x n. told-other a z k x (rw (n .live)) (n .address) (n .differs)) h
 
-  finds : (es : List Piece) → Finds a z es (findLive a z 0 es)
-  finds es = go (answer es)
+  -- what is told of the entry in which the address lies is so
+  right-of : {k : ℕ} {x : Piece} → EntryIs es k x → Holds x a → Finds E a z es (toldOf a z k x)
+  right-of {k} {x} e h = go (x .status) refl
     where
-      go : Answer es → Finds a z es (findLive a z 0 es)
-      go (right r h) = subst (λ (v : Found). Finds a z es v) (only es r h) h
+      lying : {Is : Piece → Type 0} → Is x → LiesIn a es Is
+      lying i = record { entry = x; among = entry-among e; holds = h; is = i }
 
--- ---- the statements
+      go : (s : Status) → x .status ≡ s → Finds E a z es (toldOf a z k x)
+      go (Free c) q = rw (told-free a z k x (rw q)) (lying (rw q is-free))
+      go (Live c) q = at-start (eqb (x .address) a) refl
+        where
+          live : freeb (x .status) ≡ false
+          live = rw q
+
+          of-size : (t : Bool) → eqb (x .size) z ≡ t → x .address ≡ a → Finds E a z es (toldOf a z k x)
+          of-size true f b =
+              let size = eqb-true (x .size) z f in
+              rw (told-at a z k x live b size) (record { entry = e; named = record { class = c; live = q; address = b; size = size } })
+          of-size false f b =
+              let differs = eqb-false (x .size) z f in
+              rw (told-other a z k x live b differs) (lying (record { class = c; live = q; address = b; differs = differs }))
+
+          at-start : (t : Bool) → eqb (x .address) a ≡ t → Finds E a z es (toldOf a z k x)
+          at-start true f = of-size (eqb (x .size) z) refl (eqb-true (x .address) a f)
+          at-start false f =
+              let elsewhere = eqb-false (x .address) a f in
+              rw (told-inside a z k x live elsewhere) (lying (record { class = c; live = q; elsewhere = elsewhere }))
+
+  right : Finds E a z es (findIn a z 0 es)
+  right = split E a (λ l. rw (beyond a z (rules .tiling) l 0) l) below
+    where
+      below : a < E → Finds E a z es (findIn a z 0 es)
+      below l =
+          let c = covered a (rules .tiling) (omega arith) l in
+          let e = entry-got es (c .place) nothing (c .among) in
+          rw (told-by e (c .holds)) (right-of e (c .holds))
 
 pub finds-right : FindsRight
-finds-right a z es = (finds a z es, only a z es)
+finds-right P E a z es rules = (right a z rules, only a z rules)
 
 -- what a caller learns from an answer
-pub found-at : (a z : ℕ) (es : List Piece) (i : ℕ) (x : Piece) → At i x ≡ findLive a z 0 es → FoundAt a z es i x
-found-at a z es i x e = subst (λ (v : Found). Finds a z es v) (sym e) (finds-right a z es .0)
-
-pub found-missing : (a z : ℕ) (es : List Piece) → Missing ≡ findLive a z 0 es → NoneNamed a z es
-found-missing a z es e = subst (λ (v : Found). Finds a z es v) (sym e) (finds-right a z es .0)
-
-pub one-named : OneNamed
-one-named a z es up i k x y e f h g =
-    split i k
-    (λ l. split k i (λ m. omega arith) (λ m. absurd (omega (arith, up .above i k x y m e f, h .address, g .address))))
-    (λ l. absurd (omega (arith, up .above k i y x l f e, h .address, g .address)))
+pub found-at : {P E : ℕ} (a z : ℕ) {es : List Piece} → SoundEntries P E es → {i : ℕ} {x : Piece} → At i x ≡ findIn a z 0 es → FoundAt a z es i x
+found-at {P} {E} a z {es} rules e = subst (λ (v : Found). Finds E a z es v) (sym e) (finds-right P E a z es rules .0)

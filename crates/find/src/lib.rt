@@ -1,48 +1,69 @@
-// The live piece that a call names by its exact address and size.
+// What an address and a size name in a table: a live piece, or else what is wrong with them. The entry in which the address lies decides.
 ghost use mathlib.Core.Path.{_≡_};
 ghost use Prim.Native.Nat.{_*_, _≤_};
 ghost use lib.ListN.{length};
 ghost use Rattle.pieces.specs.Words.{entryWords, entries};
-ghost use Rattle.find.specs.Find.{namedb, findLive};
+ghost use Rattle.find.specs.Find.{toldOf, findIn};
+ghost use Rattle.find.specs.Walk.{Started, FindFits};
 use pieces::Piece;
 use pieces::address_at;
 use pieces::is_free;
-use pieces::piece_at;
+use pieces::piece_of;
+use pieces::words_at;
 
 pub enum Found {
     At(usize, Piece),
-    Missing,
+    BeyondEnd,
+    InFree,
+    InsideLive,
+    OtherSize,
 }
 
-// Whether this is the named piece.
-fn is_named(address: u64, size: u64, piece: Piece) -> bool
-    ensures { λ r. ⌜ r ≡ namedb address size piece ⌝ }
-{
-    if piece.address != address {
-        return false;
-    }
-    if piece.size != size {
-        return false;
-    }
-    let status = piece.status;
-    !is_free(status)
-}
-
-// The first live entry, of the n that the table has, with this address and size.
-pub fn find(address: u64, size: u64, n: usize, table: &[u64]) -> Found
+// How many of the n entries start at or before the address, up to the first that does not.
+fn started(address: u64, n: usize, table: &[u64]) -> usize
     requires { ⌜ n * entryWords ≤ length (now table) ⌝ }
-    ensures { λ r. ⌜ r ≡ findLive address size 0 (entries (now (table .entry)) 0 n) ⌝ }
+    ensures { λ r. ⌜ Started address n (now (table .entry)) r ⌝ }
 {
     let mut i: usize = 0;
     while i < n {
-        // Nearly every entry has another address, so that word is read alone.
-        if address_at(table, i) == address {
-            let piece = piece_at(table, i);
-            if is_named(address, size, piece) {
-                return Found::At(i, piece);
-            }
+        if address < address_at(table, i) {
+            return i;
         }
         i = i + 1;
     }
-    Found::Missing
+    i
+}
+
+// What is told of an address and a size, where the address lies in this piece, entry i.
+fn told(address: u64, size: u64, i: usize, piece: Piece) -> Found
+    ensures { λ r. ⌜ r ≡ toldOf address size i piece ⌝ }
+{
+    let status = piece.status;
+    if is_free(status) {
+        return Found::InFree;
+    }
+    if piece.address != address {
+        return Found::InsideLive;
+    }
+    if piece.size != size {
+        return Found::OtherSize;
+    }
+    Found::At(i, piece)
+}
+
+// What an address and a size name among the n entries that the table has. Each entry ends where the next one starts, or before, so the address
+// lies in the last that starts at or before it, or in none.
+pub fn find(address: u64, size: u64, n: usize, table: &[u64]) -> Found
+    requires { ⌜ FindFits n (now table) ⌝ }
+    ensures { λ r. ⌜ r ≡ findIn address size 0 (entries (now (table .entry)) 0 n) ⌝ }
+{
+    let started = started(address, n, table);
+    if 0 < started {
+        let i = started - 1;
+        let words = words_at(table, i);
+        if address - words.address < words.size {
+            return told(address, size, i, piece_of(words));
+        }
+    }
+    Found::BeyondEnd
 }

@@ -191,7 +191,7 @@ fn further_requests(both: Both) -> Both {
     let both = ask_both(both, Call::Extend(20480, 4096, 5000), Answer::Done);
     let both = ask_both(both, Call::Shorten(4096, 8192, 4000), Answer::Done);
     let both = ask_both(both, Call::Allocate(RAW, 60), Answer::At(12288));
-    ask_both(both, Call::Release(4096, 300), Answer::Refused(7))
+    ask_both(both, Call::Release(4096, 300), Answer::Refused(16))
 }
 
 fn say_holding(who: &[u8], scene: Scene) {

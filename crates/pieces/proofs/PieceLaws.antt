@@ -5,11 +5,11 @@
 -- Assumes nothing.
 use Prim.Native.Nat.{ℕ, zero, suc, _≤_, _<_}
 use mathlib.Core.Bool.{true, false}
-use mathlib.Core.List.{List, _∷_, _++_, List·Memᴰ, List·Memᴰ·head, List·Memᴰ·tail}
+use mathlib.Core.List.{List, [], _∷_, _++_, List·Memᴰ, List·Memᴰ·head, List·Memᴰ·tail}
 use mathlib.Core.Path.{_≡_, refl, sym, ap, _∙_}
 use native.Mathlib.Omega.{arith}
 use lib.Dec.{leb}
-use lib.ListN.{length, take, drop}
+use lib.ListN.{length, getD, take, drop}
 use borrow.Author.Tests.{le-leb, lt-leb, leb-true}
 use Rattle.pages.proofs.Numbers.{and-left, and-right, both, not-both}
 use Rattle.pieces.specs.Pieces.{EntryIs, entry-here, entry-later, Small, metadata, raw, IsFree, is-free, sameClass, kindOf, Kind, kindb, statusOf}
@@ -130,6 +130,11 @@ entry-among (entry-later e) = List·Memᴰ·tail (entry-among e)
 pub entry-number : {es : List Piece} {x : Piece} → List·Memᴰ x es → (i : ℕ) × EntryIs es i x
 entry-number {x = x} (List·Memᴰ·head {x = y} {xs = es} e) = (0, rw e entry-here)
 entry-number (List·Memᴰ·tail h) = let r = entry-number h in (suc (r .0), entry-later (r .1))
+
+pub entry-got : (es : List Piece) (i : ℕ) (d : Piece) → i < length es → EntryIs es i (getD es i d)
+entry-got [] i d h = absurd (omega arith)
+entry-got (x ∷ es) zero d h = entry-here
+entry-got (x ∷ es) (suc i) d h = entry-later (entry-got es i d (omega arith))
 
 pub entry-split : {es : List Piece} {i : ℕ} {x : Piece} → EntryIs es i x → es ≡ take i es ++ (x ∷ drop (suc i) es)
 entry-split entry-here = refl

@@ -1,6 +1,6 @@
--- Document 01's numbered refusals, and its number for what a call on a space answers.
+-- The numbered refusals of document 01 and of the requests, and the number of what a call on a space answers.
 --
---   outOfRange .. brokenField       the numbered refusals; success is 0. The last three are a message's, the first of them a listing's too
+--   outOfRange .. otherSize         the numbered refusals; success is 0. 10 to 12 are a message's, and 10 a listing's too. No refusal has the number 7
 --   noAddress                       the address answer of a refused call
 --   openNumber, allocateNumber, ..  the number of each case of each call's answer; notNamedNumber, notResizedNumber of each reason why a piece is
 --                                   not named, or keeps its size
@@ -43,9 +43,6 @@ beyondLimit = 5
 abbrev pub tableFull : ℕ
 tableFull = 6
 
-abbrev pub notLive : ℕ
-notLive = 7
-
 abbrev pub noRoomBehind : ℕ
 noRoomBehind = 8
 
@@ -60,6 +57,19 @@ otherVersion = 11
 
 abbrev pub brokenField : ℕ
 brokenField = 12
+
+-- what is wrong with the address and the size that are to name a piece
+abbrev pub beyondEnd : ℕ
+beyondEnd = 13
+
+abbrev pub inFree : ℕ
+inFree = 14
+
+abbrev pub insideLive : ℕ
+insideLive = 15
+
+abbrev pub otherSize : ℕ
+otherSize = 16
 
 abbrev pub noAddress : ℕ
 noAddress = 2 ^ 64 - 1
@@ -88,7 +98,10 @@ addressOf allocating.TableFull = noAddress
 
 abbrev pub notNamedNumber : NotNamed → ℕ
 notNamedNumber unnamed.NoBytes = zeroAsked
-notNamedNumber unnamed.NotLive = notLive
+notNamedNumber unnamed.BeyondEnd = beyondEnd
+notNamedNumber unnamed.InFree = inFree
+notNamedNumber unnamed.InsideLive = insideLive
+notNamedNumber unnamed.OtherSize = otherSize
 
 abbrev pub releaseNumber : ReleaseAnswer → ℕ
 releaseNumber releasing.Done = 0

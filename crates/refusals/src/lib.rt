@@ -1,4 +1,4 @@
-// Document 01's numbered refusals, and what the calls on a space answer: one case for each refusal that a call can give, and its number.
+// The numbered refusals, and what the calls on a space answer: one case for each refusal that a call can give, and its number.
 ghost use mathlib.Core.Path.{_≡_};
 ghost use Rattle.refusals.specs.AnswerNumbers.{openNumber, allocateNumber, addressOf, listNumber, countOf};
 ghost use Rattle.refusals.specs.AnswerNumbers.{notNamedNumber, releaseNumber, notResizedNumber, resizeNumber};
@@ -17,10 +17,14 @@ pub enum AllocateAnswer {
     TableFull,
 }
 
-// Why a call that names a piece by address and size goes no further. A request that tells more reasons apart adds its cases here.
+// Why a call that names a piece by address and size goes no further: a size or change of 0, which is no release's; or the address is at or beyond
+// the end, lies in free space, lies inside a live piece and isn't its start, or is a live piece's start and the size differs.
 pub enum NotNamed {
     NoBytes,
-    NotLive,
+    BeyondEnd,
+    InFree,
+    InsideLive,
+    OtherSize,
 }
 
 pub enum ReleaseAnswer {
@@ -53,8 +57,8 @@ pub enum ListAnswer {
     SliceTooShort,
 }
 
-// Document 01's number for each answer: 0 where the call is accepted. Each refusal's number stands once, under its name; the last three are a
-// message's, the first of them a listing's too.
+// The number of each answer: 0 where the call is accepted. Each refusal's number stands once, under its name. 10 to 12 are a message's, and 10 a
+// listing's too. No refusal has the number 7.
 pub const DONE: u64 = 0;
 
 pub const OUT_OF_RANGE: u64 = 1;
@@ -69,8 +73,6 @@ pub const BEYOND_LIMIT: u64 = 5;
 
 pub const TABLE_FULL: u64 = 6;
 
-pub const NOT_LIVE: u64 = 7;
-
 pub const NO_ROOM_BEHIND: u64 = 8;
 
 pub const TOO_LITTLE_LEFT: u64 = 9;
@@ -80,6 +82,14 @@ pub const SLICE_TOO_SHORT: u64 = 10;
 pub const OTHER_VERSION: u64 = 11;
 
 pub const BROKEN_FIELD: u64 = 12;
+
+pub const BEYOND_END: u64 = 13;
+
+pub const IN_FREE: u64 = 14;
+
+pub const INSIDE_LIVE: u64 = 15;
+
+pub const OTHER_SIZE: u64 = 16;
 
 // The address answer of a refused call.
 pub const NO_ADDRESS: u64 = 18446744073709551615;
@@ -124,7 +134,10 @@ pub fn not_named_number(why: NotNamed) -> u64
 {
     match why {
         NotNamed::NoBytes => ZERO_ASKED,
-        NotNamed::NotLive => NOT_LIVE,
+        NotNamed::BeyondEnd => BEYOND_END,
+        NotNamed::InFree => IN_FREE,
+        NotNamed::InsideLive => INSIDE_LIVE,
+        NotNamed::OtherSize => OTHER_SIZE,
     }
 }
 

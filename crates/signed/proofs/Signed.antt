@@ -8,6 +8,7 @@ use Rattle.demands.proofs.Edits.{edits, new-bytes}
 use Rattle.demands.proofs.Exactly.{exactly}
 use Rattle.demands.proofs.Keeps.{keeps, runs}
 use Rattle.demands.proofs.Listings.{listings}
+use Rattle.demands.proofs.Names.{one-of-five}
 use Rattle.demands.proofs.OneResult.{one-result}
 use Rattle.demands.proofs.Placing.{placing}
 use Rattle.demands.proofs.Refusals.{refusals}
@@ -29,6 +30,7 @@ signed =
       edits = edits;
       new-bytes = new-bytes;
       placing = placing;
+      one-of-five = one-of-five;
       exactly = exactly;
       listings = listings;
       the-run = the-run;

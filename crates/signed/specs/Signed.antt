@@ -6,7 +6,7 @@
 -- literal/specs/Statements.antt, those on the message in message_promises/specs/Promises.antt.
 --
 -- Assumes nothing.
-use Rattle.demands.specs.Demands.{Refusals, Keeps, Edits, NewBytes, Placing, Exactly, Listings, Runs, AnyOrder, TwoOrders, TheRun, OneResult}
+use Rattle.demands.specs.Demands.{Refusals, Keeps, Edits, NewBytes, Placing, OneOfFive, Exactly, Listings, Runs, AnyOrder, TwoOrders, TheRun, OneResult}
 use Rattle.demands_with.specs.Summaries.{Tied, RefusalsWith, ExactlyWith, KeepsWith, RunsWith, AnyOrderWith, TwoOrdersWith, OneResultWith}
 use Rattle.literal.specs.Statements.{Allocating, Releasing, Extending, Shortening}
 use Rattle.message_promises.specs.Promises.{Lengths, ReadExact, RestExact, WriteExact, Acceptance, RoundTrip, OneMeaning}
@@ -22,6 +22,7 @@ pub record Signed : Type 0 where
   pub edits : Edits
   pub new-bytes : NewBytes
   pub placing : Placing
+  pub one-of-five : OneOfFive
   pub exactly : Exactly
   pub listings : Listings
   pub the-run : TheRun

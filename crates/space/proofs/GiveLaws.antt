@@ -23,7 +23,7 @@ use borrow.Author.Tests.{eq-eqb}
 use Rattle.change.specs.Change.{planWithout, planWith}
 use Rattle.change.specs.declared.plan.Plan.{Plan}
 use Rattle.find.proofs.FindLaws.{found-at}
-use Rattle.find.specs.Find.{findLive, FoundAt}
+use Rattle.find.specs.Find.{findIn, FoundAt}
 use Rattle.find.specs.declared.Found.the-variants as finding
 use Rattle.find.specs.declared.Found.{Found}
 use Rattle.pages.proofs.Numbers.{both, split, passes, fails}
@@ -34,7 +34,7 @@ use Rattle.pieces.specs.Words.{entryAt, entries}
 use Rattle.pieces.specs.declared.Class.{Class}
 use Rattle.pieces.specs.declared.Piece.{Piece}
 use Rattle.refusals.specs.AnswerNumbers.{notSound, tableFull, notNamedNumber, notResizedNumber}
-use Rattle.refusals.specs.declared.NotNamed.the-variants.{NoBytes, NotLive}
+use Rattle.refusals.specs.declared.NotNamed.the-variants.{NoBytes, BeyondEnd, InFree, InsideLive, OtherSize}
 use Rattle.refusals.specs.declared.NotNamed.{NotNamed}
 use Rattle.refusals.specs.declared.NotResized.the-variants.{NoRoomBehind, BeyondLimit, TooLittleLeft}
 use Rattle.refusals.specs.declared.NotResized.{NotResized}
@@ -67,9 +67,12 @@ use Rattle.table.specs.Fill.{lives, Good}
 
 -- ---- no reason has the number 0
 
-not-named-some : (why : NotNamed) → notNamedNumber why ≡ 0 → ⊥
+pub not-named-some : (why : NotNamed) → notNamedNumber why ≡ 0 → ⊥
 not-named-some NoBytes e = omega (arith, e)
-not-named-some NotLive e = omega (arith, e)
+not-named-some BeyondEnd e = omega (arith, e)
+not-named-some InFree e = omega (arith, e)
+not-named-some InsideLive e = omega (arith, e)
+not-named-some OtherSize e = omega (arith, e)
 
 not-resized-some : (why : NotResized) → notResizedNumber why ≡ 0 → ⊥
 not-resized-some NoRoomBehind e = omega (arith, e)
@@ -81,20 +84,23 @@ not-resized-some TooLittleLeft e = omega (arith, e)
 found-entry : (zero : Bool) (f : Found) (i : ℕ) (x : Piece) → At i x ≡ cond zero (Not NoBytes) (namedAs f) → finding.At i x ≡ f
 found-entry true f i x e = let z : _≡_ {A = ℕ} 0 1 = cc in absurd (omega arith)
 found-entry false (finding.At j y) i x e = let j-is : i ≡ j = cc in let y-is : x ≡ y = cc in rw (j-is, y-is)
-found-entry false finding.Missing i x e = let z : _≡_ {A = ℕ} 0 1 = cc in absurd (omega arith)
+found-entry false finding.BeyondEnd i x e = let z : _≡_ {A = ℕ} 0 1 = cc in absurd (omega arith)
+found-entry false finding.InFree i x e = let z : _≡_ {A = ℕ} 0 1 = cc in absurd (omega arith)
+found-entry false finding.InsideLive i x e = let z : _≡_ {A = ℕ} 0 1 = cc in absurd (omega arith)
+found-entry false finding.OtherSize i x e = let z : _≡_ {A = ℕ} 0 1 = cc in absurd (omega arith)
 
-module _ (sp : Space) (w : List ℕ) (zero : Bool) (a z : ℕ) (i : ℕ) (x : Piece) (named : At i x ≡ namedIn sp w zero a z) where
+module _ (sp : Space) (w : List ℕ) (s : SoundSpace sp w) (zero : Bool) (a z : ℕ) (i : ℕ) (x : Piece) (named : At i x ≡ namedIn sp w zero a z) where
   pub found-named : FoundAt a z (entriesOf sp w) i x
   unfolding namedIn
-  found-named = found-at a z (entriesOf sp w) i x (found-entry zero (findLive a z 0 (entriesOf sp w)) i x named)
+  found-named = found-at a z (s .rules) (found-entry zero (findIn a z 0 (entriesOf sp w)) i x named)
 
   -- the piece that was found is the one that was named
   same-piece : {A : Type 0} (f : ℕ → ℕ → A) → f (x .address) (x .size) ≡ f a z
   same-piece f =
       ap (λ (v : ℕ). f v (x .size)) (found-named .named .address) ∙ ap (f a) (found-named .named .size)
 
-  pub found-in : SoundSpace sp w → FoundIn sp w i x
-  found-in s =
+  pub found-in : FoundIn sp w i x
+  found-in =
       record {
         sound = s;
         found = subst⁻¹ (λ (v : ℕ). FoundAt v (x .size) (entriesOf sp w) i x) (found-named .named .address)
@@ -108,7 +114,7 @@ module _ (sp : Space) (w : List ℕ) (zero : Bool) (a z : ℕ) where
   unfolding namedIn
   named-zero e = rw e
 
-  pub named-asked : zero ≡ false → (f : Found) → f ≡ findLive a z 0 (entriesOf sp w) → namedAs f ≡ namedIn sp w zero a z
+  pub named-asked : zero ≡ false → (f : Found) → f ≡ findIn a z 0 (entriesOf sp w) → namedAs f ≡ namedIn sp w zero a z
   unfolding namedIn
   named-asked e f is = rw e (ap namedAs is)
 
@@ -135,7 +141,7 @@ module _ (sp : Space) (w : List ℕ) (zero : Bool) (a z : ℕ) where
   unfolding whenNamed
   naming-found found s i x q =
       naming-sound (found a z) s
-      ∙ (ap (whenNamed sp w (found a z)) (sym q) ∙ sym (same-piece sp w zero a z i x q (λ u v. found u v i x)))
+      ∙ (ap (whenNamed sp w (found a z)) (sym q) ∙ sym (same-piece sp w s zero a z i x q (λ u v. found u v i x)))
 
 pub released-naming : (sp : Space) (a z : ℕ) (w : List ℕ) → released sp a z w ≡ naming sp w false a z (releasedAt sp a z w)
 unfolding released

@@ -16,14 +16,14 @@ use mathlib.Core.Bool.{Bool, false, cond, not, _||_}
 use mathlib.Core.List.{List}
 use Prim.Native.Nat.{ℕ, _+_, _-_}
 use lib.Dec.{eqb}
-use Rattle.find.specs.Find.{findLive}
+use Rattle.find.specs.Find.{findIn}
 use Rattle.find.specs.declared.Found.{Found}
 use Rattle.find.specs.declared.Found.the-variants as finding
 use Rattle.pieces.specs.Pieces.{classOf}
 use Rattle.pieces.specs.Words.{entries}
 use Rattle.pieces.specs.declared.Piece.{Piece}
 use Rattle.refusals.specs.AnswerNumbers.{notSound, notNamedNumber, notResizedNumber}
-use Rattle.refusals.specs.declared.NotNamed.the-variants.{NoBytes, NotLive}
+use Rattle.refusals.specs.declared.NotNamed.the-variants.{NoBytes, BeyondEnd, InFree, InsideLive, OtherSize}
 use Rattle.refusals.specs.declared.NotNamed.{NotNamed}
 use Rattle.refusals.specs.declared.NotResized.the-variants.{NoRoomBehind, BeyondLimit, TooLittleLeft}
 use Rattle.room.specs.Room.{roomBehindb, growsBeyondb, remainsb}
@@ -44,14 +44,17 @@ nameOf a z = record { address = a; size = z }
 
 abbrev pub namedAs : Found → Named
 namedAs (finding.At i x) = At i x
-namedAs finding.Missing = Not NotLive
+namedAs finding.BeyondEnd = Not BeyondEnd
+namedAs finding.InFree = Not InFree
+namedAs finding.InsideLive = Not InsideLive
+namedAs finding.OtherSize = Not OtherSize
 
 unfoldable pub namedIn : Space → List ℕ → Bool → ℕ → ℕ → Named
-namedIn sp w zero a z = cond zero (Not NoBytes) (namedAs (findLive a z 0 (entriesOf sp w)))
+namedIn sp w zero a z = cond zero (Not NoBytes) (namedAs (findIn a z 0 (entriesOf sp w)))
 
--- one that has an entry is never asked for it
+-- one that has an entry is never asked for it, and any would do
 abbrev pub whyNot : Named → NotNamed
-whyNot (At i x) = NotLive
+whyNot (At i x) = NoBytes
 whyNot (Not why) = why
 
 unfoldable pub whenNamed : Space → List ℕ → (ℕ → Piece → Outcome) → Named → Outcome

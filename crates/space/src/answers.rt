@@ -1,15 +1,18 @@
 // What the calls answer, and the new state with it. The answers and their numbers are those of `refusals`.
 use crate::Space;
 pub use refusals::AllocateAnswer;
+pub use refusals::BEYOND_END;
 pub use refusals::BEYOND_LIMIT;
 pub use refusals::DONE;
+pub use refusals::IN_FREE;
+pub use refusals::INSIDE_LIVE;
 pub use refusals::ListAnswer;
 pub use refusals::NO_ADDRESS;
 pub use refusals::NO_ROOM_BEHIND;
-pub use refusals::NOT_LIVE;
 pub use refusals::NOT_SOUND;
 pub use refusals::NotNamed;
 pub use refusals::NotResized;
+pub use refusals::OTHER_SIZE;
 pub use refusals::OUT_OF_RANGE;
 pub use refusals::OpenAnswer;
 pub use refusals::ReleaseAnswer;

@@ -30,7 +30,7 @@ impl Named {
         ensures { λ r. ⌜ r ≡ whyNot self ⌝ }
     {
         match self {
-            Named::At(_, _) => NotNamed::NotLive,
+            Named::At(_, _) => NotNamed::NoBytes,
             Named::Not(why) => why,
         }
     }
@@ -71,10 +71,13 @@ impl Space {
             return Named::Not(NotNamed::NoBytes);
         }
         let n = self.count as usize;
-        let Found::At(i, piece) = find::find(address, size, n, table) else {
-            return Named::Not(NotNamed::NotLive);
-        };
-        Named::At(i, piece)
+        match find::find(address, size, n, table) {
+            Found::At(i, piece) => Named::At(i, piece),
+            Found::BeyondEnd => Named::Not(NotNamed::BeyondEnd),
+            Found::InFree => Named::Not(NotNamed::InFree),
+            Found::InsideLive => Named::Not(NotNamed::InsideLive),
+            Found::OtherSize => Named::Not(NotNamed::OtherSize),
+        }
     }
 
     // ---- release

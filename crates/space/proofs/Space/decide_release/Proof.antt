@@ -32,7 +32,7 @@ release-found-requires c κs =
     let call = c .before .before .before in
     let start = call .before .before in
     let a = start .args in
-    found-in (a .self) (a .table .now) _ (a .address) (a .size) _ _ (sym (c .before .named2 .given .1) ∙ call .named .ensures) (start .pre)
+    found-in (a .self) (a .table .now) (start .pre) _ (a .address) (a .size) _ _ (sym (c .before .named2 .given .1) ∙ call .named .ensures)
 
 returns-2 : tie.Need-returns-2
 returns-2 c =

@@ -4,12 +4,11 @@
 //!
 //! `show summary` gives number, bytes and largest of metadata, raw and large, the 19 counts, and the signed number.
 
-use crate::document::Claim;
+use crate::document::{Claim, WORDS_OF_STEP_5};
 
 const NOTHING: &str = "summary: 0 0 0 0 0 0 0 0 0 0 0 0 0 0 0 0 0 0 0 0 0 0 0 0 0 0 0 0 0";
 const AFTER_STEP_5: &str = "summary: 1 502 502 1 412 412 1 324 324 0 0 3 0 0 0 0 0 0 0 0 0 0 0 0 0 0 0 0 512";
 const WITHOUT_STEP_5: &str = "summary: 0 0 0 1 412 412 1 324 324 0 0 2 0 0 0 0 0 0 0 0 0 0 0 0 0 0 0 0 -512";
-const WORDS_OF_STEP_5: &str = "words 0 96 1 96 416 1 512 100 2 612 412 5 1024 700 3 1724 324 6 2048 10 1 2058 502 4 0 0 0 0 0 0 0 0 0 0 0 0";
 
 /// All but the signed number after document 01's step 12.
 macro_rules! after_step_12 {
@@ -61,7 +60,7 @@ pub const CLAIMS: &[Claim] = &[
             ("open 512 5120 4", "done; end 0; 0 entries"),
             ("allocate raw 500", "at 0; end 512; 2 entries"),
             ("allocate raw 0", "refused 4; end 512; 2 entries"),
-            ("release 0 499", "refused 7; end 512; 2 entries"),
+            ("release 0 499", "refused 16; end 512; 2 entries"),
             ("extend 0 500 12", "refused 8; end 512; 2 entries"),
             ("shorten 0 500 500", "refused 9; end 512; 2 entries"),
             ("show summary", "summary: 0 0 0 1 12 12 0 0 0 0 1 0 0 0 0 0 0 0 0 0 0 0 0 0 0 0 0 0 512"),
