@@ -1,8 +1,9 @@
--- The numbered refusals: each is given exactly when document 01 says, in its order.
+-- The numbered refusals: each is given exactly when document 01 and the requests say, in their order.
 --
 --   first, first-not        one row more: a test that refuses where its condition holds, or where it does not
 --   settled-row             the last row of a change: 6, or accepted
---   sound-row, found-row, naming-row, asking-row     the rows that calls share
+--   found-row               what is wrong with a name, 13 to 16, by what was found
+--   sound-row, naming-row, asking-row     the other rows that calls share
 --   one-number              a row allows one number
 --   exactly                 the statement
 --
@@ -19,11 +20,11 @@ use Rattle.accepted.proofs.PlaceRule.{place-found}
 use Rattle.demands.proofs.ConditionLaws.{type-test, test-type, manager-test, test-manager, zero-test, test-zero}
 use Rattle.demands.proofs.ConditionLaws.{chosen, beyond-end as passes-limit, end-beyond, there, there-is, placing-it, too-many}
 use Rattle.demands.proofs.ConditionLaws.{room, has-room, the-room, has-left, the-left, Beyond, grows-last, last-grows}
-use Rattle.demands.proofs.Names.{told-right, not-before}
+use Rattle.demands.proofs.Names.{caseOf, placeOf, told-right, not-before}
 use Rattle.demands.specs.Calls.{Call, opens, allocates, releases, extends, shortens, called}
 use Rattle.demands.specs.Demands.{Exactly}
 use Rattle.demands.specs.Rows.{Given, given, passed-on, UnknownType, UnknownManager, ZeroAsked}
-use Rattle.demands.specs.Rows.{beyond-end, in-free, inside-live, other-size, NameRow, HasRoom, HasLeft}
+use Rattle.demands.specs.Rows.{NameCase, beyond-end, in-free, inside-live, other-size, IsSo, NameRow, HasRoom, HasLeft}
 use Rattle.demands.specs.Rows.{NoPlace, LastLarge, TooMany, FullThere, Row, ListRow}
 use Rattle.find.specs.Find.{FoundAt, findIn, Finds}
 use Rattle.find.specs.declared.Found.the-variants.{At, BeyondEnd, InFree, InsideLive, OtherSize}
@@ -90,17 +91,23 @@ module _ (sp : Space) (w : List ℕ) where
   unfolding whenNamed
   found-row s a z found Rest h f q = go f q (rw q at (told-right sp w s a z))
     where
+      -- no case that stands before the one that was found is so
+      none-before : {f : Found} (c : NameCase) → findIn a z 0 (entriesOf sp w) ≡ f → placeOf c < placeOf (caseOf f) → IsSo sp w a z c → ⊥
+      none-before {f} c q l = not-before sp w s a z c f q l
+
       go : (f : Found) → findIn a z 0 (entriesOf sp w) ≡ f → Finds (sp .end) a z (entriesOf sp w) f
           → NameRow sp w a z (whenNamed sp w found (namedAs f) .refusal) (Rest (whenNamed sp w found (namedAs f) .refusal))
       go BeyondEnd q so = given so refl
-      go InFree q so = passed-on (not-before sp w s a z beyond-end _ q (omega arith)) (given so refl)
-      go InsideLive q so = passed-on (not-before sp w s a z beyond-end _ q (omega arith)) (passed-on (not-before sp w s a z in-free _ q (omega arith)) (given so refl))
+      go InFree q so = passed-on (none-before beyond-end q (omega arith)) (given so refl)
+      go InsideLive q so =
+          passed-on (none-before beyond-end q (omega arith)) (passed-on (none-before in-free q (omega arith))
+          (given so refl))
       go OtherSize q so =
-          passed-on (not-before sp w s a z beyond-end _ q (omega arith)) (passed-on (not-before sp w s a z in-free _ q (omega arith))
-          (passed-on (not-before sp w s a z inside-live _ q (omega arith)) (given so refl)))
+          passed-on (none-before beyond-end q (omega arith)) (passed-on (none-before in-free q (omega arith))
+          (passed-on (none-before inside-live q (omega arith)) (given so refl)))
       go (At i x) q so =
-          passed-on (not-before sp w s a z beyond-end _ q (omega arith)) (passed-on (not-before sp w s a z in-free _ q (omega arith))
-          (passed-on (not-before sp w s a z inside-live _ q (omega arith)) (passed-on (not-before sp w s a z other-size _ q (omega arith)) (h i x so))))
+          passed-on (none-before beyond-end q (omega arith)) (passed-on (none-before in-free q (omega arith))
+          (passed-on (none-before inside-live q (omega arith)) (passed-on (none-before other-size q (omega arith)) (h i x so))))
 
   -- 2, and then what a sound table gives
   sound-row : (o : Outcome) (Rest : ℕ → Type 0) → (SoundSpace sp w → Rest (o .refusal))

@@ -1,6 +1,6 @@
 -- What an address and a size are to a sound table: exactly one of five.
 --
---   caseOf r           the case of what was found
+--   caseOf r           the case of what was found; placeOf c, where a case stands in a row
 --   so-of, found-of    what was found is so, as a case; and a case that is so is what is found
 --   one-of-five        the statement
 --   not-before         of what was found no case that stands before its own is so
@@ -28,7 +28,7 @@ caseOf InsideLive = inside-live
 caseOf OtherSize = other-size
 
 -- the place of a case in a row: the four refusals, and then the live piece
-abbrev placeOf : NameCase → ℕ
+abbrev pub placeOf : NameCase → ℕ
 placeOf beyond-end = 0
 placeOf in-free = 1
 placeOf inside-live = 2
@@ -45,7 +45,7 @@ module _ (sp : Space) (w : List ℕ) (s : SoundSpace sp w) (a z : ℕ) where
   pub told-right : IsFound told
   told-right = finds-right (sp .page) (sp .end) a z (entriesOf sp w) (s .rules) .0
 
-  pub so-of : (r : Found) → IsFound r → IsSo sp w a z (caseOf r)
+  so-of : (r : Found) → IsFound r → IsSo sp w a z (caseOf r)
   so-of (At i x) f = record { entry = x; among = entry-among (f .entry); named = f .named }
   so-of BeyondEnd h = h
   so-of InFree h = h

@@ -1,2 +1,2 @@
--- Document 01's numbered refusals, and what the calls on a space answer in them.
+-- The numbered refusals of document 01 and of the requests, and what the calls on a space answer in them.
 pub mod AnswerNumbers
