@@ -1,5 +1,6 @@
 -- The way to the entry in which an address lies: of entries that rise, the last that starts at or before the address, or none.
 --
+--   find-fits                 a sound table can be searched: its entries rise
 --   all-passed, none-left     entries in which the address does not lie are passed; if it lies in none that are left, it is beyond the end
 --   none-started              no entry starts at or before the address
 --   last-start, found-last, behind-last    the last that does: it starts there, the address lies in it, or in none
@@ -13,14 +14,20 @@ use native.Mathlib.Nat.{zero-add, add-zero, sub-zero}
 use native.Mathlib.Omega.{arith}
 use Rattle.find.proofs.FindLaws.{lies, lies-before, lies-behind}
 use Rattle.find.specs.Find.{holdsb, toldOf, findIn}
-use Rattle.find.specs.Walk.{Rising, Started}
+use Rattle.find.specs.Walk.{Rising, FindFits, Started}
 use Rattle.find.specs.declared.Found.the-variants.{BeyondEnd}
 use Rattle.find.specs.declared.Found.{Found}
 use Rattle.pages.proofs.Numbers.{split}
 use Rattle.pieces.proofs.WordLaws.{entries-next, entries-none}
 use Rattle.pieces.specs.Words.{entryAt, entries}
 use Rattle.pieces.specs.declared.Piece.{Piece}
+use Rattle.table.proofs.Theorems.{count-fits}
+use Rattle.table.proofs.TilingLaws.{rising}
+use Rattle.table.specs.Sound.{Sound}
 use Rattle.table.specs.Theorems.{Holds}
+
+pub find-fits : {P M E n : ℕ} {w : List ℕ} → Sound P M E n w → FindFits n w
+find-fits {w = w} s = record { within = count-fits (s .ranges); rising = rising w (s .rules .tiling) }
 
 module _ (a z : ℕ) (w : List ℕ) (n : ℕ) where
   -- what is told from entry i on

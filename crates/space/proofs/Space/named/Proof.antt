@@ -1,8 +1,7 @@
 -- `space::Space::named` meets its contract: what was found, or was not, is what the definition names.
 -- Assumes nothing.
+use Rattle.find.proofs.WalkLaws.{find-fits}
 use Rattle.space.proofs.GiveLaws.{named-zero, named-asked}
-use Rattle.table.proofs.Theorems.{count-fits}
-use Rattle.table.proofs.TilingLaws.{rising}
 use borrow.Author.Needs.{needs}
 use mathlib.Core.Path.{sym, _∙_}
 use Rattle.space.proofs.Space.named.Statement.{statement}
@@ -14,9 +13,7 @@ returns c =
     sym (named-zero (a .self) (a .table .now) (a .zero) (a .address) (a .size) (c .if1 .taken))
 
 find-requires : tie.Need-find-requires
-find-requires c κs =
-    let s = c .before .before .pre in
-    record { within = count-fits (s .ranges); rising = rising (c .before .before .args .table .now) (s .rules .tiling) }
+find-requires c κs = find-fits (c .before .before .pre)
 
 enum-known-i : tie.Need-enum-known-i
 enum-known-i c = search needs
