@@ -402,15 +402,19 @@ static size_t any_live(const struct run *run, const uint64_t *table, uint64_t dr
     return i < n ? i : live_from(table, 0, n);
 }
 
-static void release(struct run *run, uint64_t *table, size_t words) {
-    uint64_t draw = drawn(run->draw);
-    size_t i = any_live(run, table, draw);
+// Entry i, which was drawn, is released; nothing, where i is the count.
+static void release_drawn(struct run *run, uint64_t *table, size_t words, uint64_t draw, size_t i) {
     if (i == run->space.count)
         return;
     struct entry e = entry_at(table, i);
     run->draw = draw;
     int refusal = space_release(&run->space, table, words, e.address, e.size);
     note(run, refusal ? UINT64_MAX - refusal : 0);
+}
+
+static void release(struct run *run, uint64_t *table, size_t words) {
+    uint64_t draw = drawn(run->draw);
+    release_drawn(run, table, words, draw, any_live(run, table, draw));
 }
 
 static void shorten_and_extend(struct run *run, uint64_t *table, size_t words) {
@@ -426,17 +430,61 @@ static void shorten_and_extend(struct run *run, uint64_t *table, size_t words) {
     note(run, refusal ? UINT64_MAX - refusal : 0);
 }
 
-static struct run worked(uint64_t *table, size_t words, uint64_t entries, uint64_t turns) {
+static void turn(struct run *run, uint64_t *table, size_t words) {
+    release(run, table, words);
+    allocate(run, table, words);
+    shorten_and_extend(run, table, words);
+}
+
+// Names in one part of the table, as in crates/bench/src/named.rt.
+
+enum { NAMES_DRAWN = 2, NAMES_FOUND, CALLS_BY_NAME };
+enum { FRONT, MIDDLE };
+
+// A live entry, found from any entry of the part on, or from its first; the count where there is none.
+static size_t live_in(const struct run *run, const uint64_t *table, uint64_t part, uint64_t draw) {
+    size_t n = run->space.count, eighth = n < 8 ? 1 : n / 8;
+    if (n == 0)
+        return n;
+    size_t first = part == FRONT ? 0 : part == MIDDLE ? (n - eighth) / 2 : n - eighth;
+    size_t i = live_from(table, first + (draw >> 8) % eighth, n);
+    return i < n ? i : live_from(table, first, n);
+}
+
+// A name is drawn, and found if that is asked for. It is noted with its entry, and the next draw takes that in.
+static void name(struct run *run, const uint64_t *table, uint64_t part, bool finding) {
+    uint64_t draw = drawn(run->draw);
+    size_t n = run->space.count, i = live_in(run, table, part, draw);
+    if (i == n)
+        return;
+    struct entry e = entry_at(table, i);
+    if (finding && (i = named(&run->space, table, e.address, e.size)) == n)
+        return;
+    run->draw = draw + i;
+    run->sum = drawn(drawn(run->sum + e.address) + i);
+    run->accepted++;
+    run->entries += n;
+}
+
+static void turn_by_name(struct run *run, uint64_t *table, size_t words, uint64_t part) {
+    uint64_t draw = drawn(run->draw);
+    release_drawn(run, table, words, draw, live_in(run, table, part, draw));
+    allocate(run, table, words);
+}
+
+static struct run worked(uint64_t *table, size_t words, uint64_t entries, uint64_t turns, uint64_t way, uint64_t part) {
     struct run run = {{PAGE, LARGEST_LIMIT, 0, 0}, FIRST_DRAW, 0, 0, 0};
     for (uint64_t i = 0; i < entries; i++)
         if (run.space.count < entries)
             allocate(&run, table, words);
     run.accepted = run.entries = 0;
-    for (uint64_t i = 0; i < turns; i++) {
-        release(&run, table, words);
-        allocate(&run, table, words);
-        shorten_and_extend(&run, table, words);
-    }
+    for (uint64_t i = 0; i < turns; i++)
+        if (way == NAMES_DRAWN || way == NAMES_FOUND)
+            name(&run, table, part, way == NAMES_FOUND);
+        else if (way == CALLS_BY_NAME)
+            turn_by_name(&run, table, words, part);
+        else
+            turn(&run, table, words);
     return run;
 }
 
@@ -456,16 +504,16 @@ static void say(const char *name, uint64_t n) {
 int main(void) {
     static uint64_t table[MOST_WORDS];
     char text[64];
-    uint64_t asked[3] = {0, 0, 0};
+    uint64_t asked[5] = {0, 0, 0, 0, 0};
     long got = read(0, text, sizeof text);
     for (long i = 0, which = 0; i < got; i++) {
         if (text[i] == ' ')
             which++;
-        else if (which < 3 && text[i] >= '0' && text[i] <= '9')
+        else if (which < 5 && text[i] >= '0' && text[i] <= '9')
             asked[which] = asked[which] * 10 + (text[i] - '0');
     }
     size_t words = asked[1] < MOST_WORDS / ENTRY_WORDS ? asked[1] * ENTRY_WORDS : MOST_WORDS;
-    struct run run = worked(table, words, asked[0], asked[2]);
+    struct run run = worked(table, words, asked[0], asked[2], asked[3], asked[4]);
     say("checksum ", run.sum);
     say("accepted ", run.accepted);
     say("entries in all ", run.entries);

@@ -1,10 +1,19 @@
-// The benchmark's workload through the library. Standard input has four numbers: about how many entries the table is to have, for how many it
-// has room, how many turns to make, and 1 if the calls of the turns are to take a summary. A turn releases a live piece, allocates another one,
-// shortens a third and extends that again; 7 of 8 requests are small. bench/space.c is the same workload through a plain C version, and must
-// write the same.
+// The benchmark's workload through the library. Standard input has five numbers: about how many entries the table is to have, for how many it
+// has room, how many turns to make, the way, and the part of the table for those ways that have one; what is missing is 0. 7 of 8 requests are
+// small. The ways:
+//
+//   0    a turn releases a live piece, allocates another one, shortens a third and extends that again
+//   1    the same, and the calls take a summary
+//   2    a turn draws the name of a live piece in the part, and notes it
+//   3    the same, and the name is found
+//   4    a turn releases a live piece in the part, and allocates another one
+//
+// The parts: 0 the front of the table, 1 its middle, 2 its end. bench/space.c is the same workload through a plain C version, and must write the
+// same.
+mod named;
 mod with;
 
-ghost use Prim.Native.Nat.{_*_, _≤_};
+ghost use Prim.Native.Nat.{_*_, _≤_, _<_};
 ghost use mathlib.Core.Path.{_≡_};
 ghost use lib.ListN.{length};
 ghost use Rattle.pieces.specs.Words.{entryWords};
@@ -32,6 +41,14 @@ const LARGEST_CHANGE: u64 = 64;
 
 const FIRST_DRAW: u64 = 88172645463325252;
 
+const WITH_SUMMARY: u64 = 1;
+
+const NAMES_DRAWN: u64 = 2;
+
+const NAMES_FOUND: u64 = 3;
+
+const CALLS_BY_NAME: u64 = 4;
+
 // The space, the last number drawn, and what is kept of the answers: a checksum, how many calls were accepted, and the sum of the counts of
 // entries.
 pub struct Run {
@@ -42,9 +59,9 @@ pub struct Run {
     pub entries: u64,
 }
 
-// A live piece's name.
+// A live piece: its entry, address and size.
 pub enum Found {
-    Live(u64, u64),
+    Live(usize, u64, u64),
     Nothing,
 }
 
@@ -56,7 +73,7 @@ pub fn drawn(x: u64) -> u64 {
 }
 
 // A checksum with one number more.
-fn summed(sum: u64, x: u64) -> u64 {
+pub fn summed(sum: u64, x: u64) -> u64 {
     drawn(wrapping_add_u64(sum, x))
 }
 
@@ -101,7 +118,7 @@ pub fn noted(run: Run, space: Space, draw: u64, number: u64, given: u64) -> Run 
     }
 }
 
-fn allocate(table: &mut [u64], run: Run) -> Run {
+pub fn allocate(table: &mut [u64], run: Run) -> Run {
     let draw = drawn(run.draw);
     let space = run.space;
     let done = space.allocate(table, type_of(draw), size_of(draw));
@@ -119,11 +136,30 @@ fn live_from(table: &[u64], i: usize, n: usize) -> Found
         let piece = pieces::piece_at(table, at);
         let status = piece.status;
         if !pieces::is_free(status) {
-            return Found::Live(piece.address, piece.size);
+            return Found::Live(at, piece.address, piece.size);
         }
         at = at + 1;
     }
     Found::Nothing
+}
+
+// Any entry of n.
+pub fn any_of(n: usize, draw: u64) -> usize
+    requires { ⌜ 0 < n ⌝ }
+    ensures { λ r. ⌜ r < n ⌝ }
+{
+    (draw >> 8) as usize % n
+}
+
+// The first live piece from entry i on, of n, or from the entry `first` on where there is none.
+pub fn live_from_or(table: &[u64], i: usize, first: usize, n: usize) -> Found
+    requires { ⌜ n * entryWords ≤ length (now table) ⌝ }
+{
+    let found = live_from(table, i, n);
+    match found {
+        Found::Live(i, a, z) => Found::Live(i, a, z),
+        Found::Nothing => live_from(table, first, n),
+    }
 }
 
 // A live piece, found from any entry on, or from the first.
@@ -132,23 +168,25 @@ pub fn any_live(table: &[u64], space: Space, draw: u64) -> Found {
     if n == 0 {
         return Found::Nothing;
     }
-    let found = live_from(table, (draw >> 8) as usize % n, n);
-    match found {
-        Found::Live(a, z) => Found::Live(a, z),
-        Found::Nothing => live_from(table, 0, n),
-    }
+    live_from_or(table, any_of(n, draw), 0, n)
+}
+
+// The piece at this address, of this size, is released.
+pub fn release_named(table: &mut [u64], run: Run, draw: u64, address: u64, size: u64) -> Run {
+    let space = run.space;
+    let done = space.release(table, address, size);
+    let next = done.space;
+    let answer = done.answer;
+    noted(run, next, draw, release_number(answer), 0)
 }
 
 fn release(table: &mut [u64], run: Run) -> Run {
     let draw = drawn(run.draw);
     let space = run.space;
-    let Found::Live(address, size) = any_live(table, space, draw) else {
+    let Found::Live(_, address, size) = any_live(table, space, draw) else {
         return run;
     };
-    let done = space.release(table, address, size);
-    let next = done.space;
-    let answer = done.answer;
-    noted(run, next, draw, release_number(answer), 0)
+    release_named(table, run, draw, address, size)
 }
 
 // By how many bytes a piece is shortened, and then extended again.
@@ -174,7 +212,7 @@ fn there_and_back(table: &mut [u64], run: Run, draw: u64, address: u64, size: u6
 fn resize(table: &mut [u64], run: Run) -> Run {
     let draw = drawn(run.draw);
     let space = run.space;
-    let Found::Live(address, size) = any_live(table, space, draw) else {
+    let Found::Live(_, address, size) = any_live(table, space, draw) else {
         return run;
     };
     there_and_back(table, run, draw, address, size, change_of(draw))
@@ -235,11 +273,15 @@ fn worked(table: &mut [u64], wish: Wish) -> Run {
         accepted: 0,
         entries: 0,
     };
-    let ready = filled(table, start, wish.entries);
-    if wish.summary == 1 {
-        return with::turned(table, counted_anew(ready), wish.turns);
+    let ready = counted_anew(filled(table, start, wish.entries));
+    let way = wish.way;
+    match way {
+        WITH_SUMMARY => with::turned(table, ready, wish.turns),
+        NAMES_DRAWN => named::names(table, ready, wish.part, false, wish.turns),
+        NAMES_FOUND => named::names(table, ready, wish.part, true, wish.turns),
+        CALLS_BY_NAME => named::turned(table, ready, wish.part, wish.turns),
+        _ => turned(table, ready, wish.turns),
     }
-    turned(table, counted_anew(ready), wish.turns)
 }
 
 // A number with one digit more, as long as it stays small.
@@ -261,7 +303,8 @@ struct Wish {
     entries: u64,
     capacity: u64,
     turns: u64,
-    summary: u64,
+    way: u64,
+    part: u64,
 }
 
 // A wish with one byte more read: a space behind a number starts the next one.
@@ -277,18 +320,22 @@ fn wished(wish: Wish, which: u64, byte: u8) -> Wish {
         next.turns = with_digit(next.turns, byte);
     }
     if which == 3 {
-        next.summary = with_digit(next.summary, byte);
+        next.way = with_digit(next.way, byte);
+    }
+    if which == 4 {
+        next.part = with_digit(next.part, byte);
     }
     next
 }
 
-// The four numbers of the text.
+// The five numbers of the text.
 fn asked(text: &[u8]) -> Wish {
     let mut wish = Wish {
         entries: 0,
         capacity: 0,
         turns: 0,
-        summary: 0,
+        way: 0,
+        part: 0,
     };
     let mut which: u64 = 0;
     let mut i: usize = 0;

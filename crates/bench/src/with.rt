@@ -50,7 +50,7 @@ fn release(table: &mut [u64], kept: Kept) -> Kept {
     let given = kept.summary;
     let draw = drawn(run.draw);
     let space = run.space;
-    let Found::Live(address, size) = any_live(table, space, draw) else {
+    let Found::Live(_, address, size) = any_live(table, space, draw) else {
         return kept;
     };
     let done = own_summary::release(space, table, given, Named { address, size });
@@ -95,7 +95,7 @@ fn there_and_back(table: &mut [u64], kept: Kept) -> Kept {
     let run = kept.run;
     let draw = drawn(run.draw);
     let space = run.space;
-    let Found::Live(address, size) = any_live(table, space, draw) else {
+    let Found::Live(_, address, size) = any_live(table, space, draw) else {
         return kept;
     };
     let by = change_of(draw);

@@ -1,0 +1,70 @@
+# What bench/run and bench/names share, for them to source: the programs, and what is measured of one run.
+#
+#   counting       whether --count is the first option; it is taken away then
+#   ours, plain    the proved program, as `rt check bench` builds it or BENCH names it, and the plain C version
+#   made           the folder of what is made here
+#
+# shellcheck shell=bash
+here=$(cd "$(dirname "${BASH_SOURCE[0]}")" && pwd)
+counting=false
+[ "${1:-}" = --count ] && { counting=true; shift; }
+kit=${RATTLE_HOME:-$(dirname "$(dirname "$(readlink -f "$(command -v rt)")")")}
+own=$kit/on/$(uname -m)
+made=$here/../target/bench
+ours=${BENCH:-$here/../target/bin/bench}
+plain=$made/space_c
+TIMEFORMAT=%U
+
+must_be_there() { # FILE
+    [ -f "$1" ] || { echo "bench/$(basename "$0"): there is no $1: build it by 'rt check bench'" >&2; exit 2; }
+}
+must_be_there "$ours"
+
+# The plain C version, and what counts instructions if that is asked for.
+compile() {
+    mkdir -p "$made"
+    "$own/toolchain/bin/clang" --target=x86_64-unknown-linux-gnu -march=x86-64 -std=c11 -O2 -Wall -Wextra -Werror -ffreestanding -fPIE \
+        -c "$here/space.c" -o "$plain.o"
+    link_program "$plain" "$plain.o"
+    if $counting; then compile_counter; fi
+}
+
+link_program() { # PROGRAM OBJECTS..
+    "$own/bin/rattle-link" --target x86_64-unknown-linux-gnu --toolchain "$own/toolchain" -o "$@" 2>"$made/link" || { cat "$made/link" >&2; exit 2; }
+}
+
+# What counts instructions: the emulator, and its plugin.
+compile_counter() {
+    { command -v qemu-x86_64 && command -v gcc; } >/dev/null ||
+        { apt-get update && apt-get install -y --no-install-recommends qemu-user gcc libc6-dev; } >"$made/install" 2>&1 ||
+        { cat "$made/install" >&2; exit 2; }
+    gcc -shared -fPIC -O2 -Wall -Wextra -Werror -o "$made/count.so" "$here/count.c"
+}
+
+# Seconds of one run, with what it wrote in the file `said`.
+seconds() { # PROGRAM ASKED
+    { time "$here/../tests/as_rt_runs" "$1" >"$made/said" <<<"$2"; } 2>&1
+}
+
+# Instructions of one run, its loader's among them, with what it wrote there too.
+instructions() { # PROGRAM ASKED
+    qemu-x86_64 -plugin "$made/count.so" "$own/toolchain/lib/ld-linux-x86-64.so.2" --library-path "$own/toolchain/lib" "$1" \
+        2>&1 >"$made/said" <<<"$2"
+}
+
+# Of several runs each must have written what the first one did, which is kept in the file `first`.
+same_as_first() { # FIRST THIS CASE
+    [ "$1" = "$2" ] && { mv "$made/said" "$made/first"; return; }
+    cmp -s "$made/first" "$made/said" && return
+    {
+        echo "The answers differ, $1 and $2, in the case $3:"
+        diff "$made/first" "$made/said" || true
+    } >&2
+    exit 1
+}
+
+machine() {
+    local how=''
+    [ -x "$own/toolchain/bin/qemu-x86_64" ] && how=", all programs under $("$own/toolchain/bin/qemu-x86_64" --version | sed -n 's/ (.*//; 1p')"
+    echo "machine: $(uname -m), $(nproc) processors$how; $(date -u +%Y-%m-%d); $(head -n 1 "$kit/KIT-ID")"
+}
