@@ -4,7 +4,7 @@
 //!   State      the four numbers P, M, E, n
 //!   Entry      a piece with its kind, one of the six
 //!   Slip       one of the errors that document 01 says a builder will be drawn to, a refusal that writes, an error in the summary, or one in
-//!              what is wrong with a name; `Slip::None` is the model
+//!              what is wrong with a name or in the way to it; `Slip::None` is the model
 //!   is_sound   whether a state and a table keep every rule of a sound table
 //!   Model      a state over a lent table of words with a lent summary, and the calls `open`, `allocate`, `release`, `extend`, `shorten`,
 //!              `list`, `fresh`
@@ -78,7 +78,8 @@ pub struct Entry {
     pub kind: u64,
 }
 
-/// The errors of document 01's list, errors in a summary, and errors in what is wrong with a name, to see that the runner finds each.
+/// The errors of document 01's list, errors in a summary, in what is wrong with a name, and in the way to the named piece, to see that the runner
+/// finds each.
 #[derive(Clone, Copy, Debug, Default, PartialEq, Eq)]
 pub enum Slip {
     #[default]
@@ -103,10 +104,12 @@ pub enum Slip {
     EndToldAsFree,
     OtherSizeToldAsInside,
     BeyondTheEndAByteLate,
+    HalfPassesOverAnEntry,
+    HalfLeavesOutTheLastEntry,
 }
 
 /// Every slip with the name by which `model_filespace` takes it.
-pub const SLIPS: [(&str, Slip); 20] = [
+pub const SLIPS: [(&str, Slip); 22] = [
     ("first-fit", Slip::FirstFit),
     ("small-in-a-misaligned-rest", Slip::SmallInAMisalignedRest),
     ("merged-over-a-border", Slip::MergedOverABorder),
@@ -127,6 +130,8 @@ pub const SLIPS: [(&str, Slip); 20] = [
     ("end-told-as-free", Slip::EndToldAsFree),
     ("other-size-told-as-inside", Slip::OtherSizeToldAsInside),
     ("beyond-the-end-a-byte-late", Slip::BeyondTheEndAByteLate),
+    ("half-passes-over-an-entry", Slip::HalfPassesOverAnEntry),
+    ("half-leaves-out-the-last-entry", Slip::HalfLeavesOutTheLastEntry),
 ];
 
 /// The code of the manager for large pieces; `METADATA` and `RAW` are those of the small ones.
@@ -508,13 +513,38 @@ impl Draft {
         if address >= self.state.end {
             return Err(BEYOND_END);
         }
-        let index = self.entries.iter().position(|entry| entry.holds(address)).expect("entries hold every byte below E");
+        let index = self.holder(address);
         match self.entries[index] {
             entry if entry.is_free() => Err(IN_FREE),
             entry if entry.address != address => Err(INSIDE_LIVE),
             entry if entry.size != size => Err(OTHER_SIZE),
             _ => Ok(index),
         }
+    }
+
+    /// The index of the entry in which an address below E lies; a slip looks for it by halves, as request E4 has it, and gets an end of the range
+    /// wrong by one.
+    fn holder(&self, address: u64) -> usize {
+        let count = self.entries.len();
+        match self.slip {
+            Slip::HalfPassesOverAnEntry => self.last_by_halves(address, count, 2),
+            Slip::HalfLeavesOutTheLastEntry => self.last_by_halves(address, count - 1, 1),
+            _ => self.entries.iter().position(|entry| entry.holds(address)).expect("entries hold every byte below E"),
+        }
+    }
+
+    /// Of the first `high` entries the last that starts at or before the address, where the upper half begins so far behind the middle entry.
+    fn last_by_halves(&self, address: u64, mut high: usize, behind: usize) -> usize {
+        let mut low = 0;
+        while low < high {
+            let middle = low + (high - low) / 2;
+            if address < self.entries[middle].address {
+                high = middle;
+            } else {
+                low = middle + behind;
+            }
+        }
+        low.min(self.entries.len()).saturating_sub(1)
     }
 
     /// What is told of a name at an address that is refused for this; a slip tells something else.

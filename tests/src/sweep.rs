@@ -1,9 +1,10 @@
 //! Scripts that change a good table, state, summary or message in each place in turn, lend each number of bytes for a message, go through all
-//! small tables at a page's edges and sections at each decade's edges, name a piece at each address of small files, fill the largest table, and
-//! try lines at the edges of the script language.
+//! small tables at a page's edges and sections at each decade's edges, name a piece at each address of small files and each entry of files
+//! with up to the most entries, fill the largest table, and try lines at the edges of the script language.
 //!
 //!   scripts    all of them; they are the same in every run
 //!   names      those of them that name a piece at each address
+//!   counts     those of them that name each entry of files with few and with many entries
 //!   messages   the good messages
 
 use crate::message::{bytes_of, Fields, ABSENT, FULL_LENGTH, HEAD_LENGTH, UNDEFINED};
@@ -30,7 +31,7 @@ fn table() -> Vec<u64> {
 
 pub fn scripts() -> Vec<Vec<String>> {
     let damaged = [each_word(), each_number_of_the_state(), each_length_of_a_table(), each_number_of_the_summary()];
-    let tables = [each_small_table(512), each_small_table(1_000), each_decade(512), each_decade(1_000), largest_table(), names()];
+    let tables = [each_small_table(512), each_small_table(1_000), each_decade(512), each_decade(1_000), largest_table(), names(), counts()];
     let read = [each_byte_of_a_message(), each_length_of_a_message()];
     let written = [each_room_for_a_message(), each_address_without_persistence()];
     let lines = [edges_of_lines(), edges_of_summary_lines()];
@@ -207,6 +208,30 @@ fn sizes_to_name(address: u64, holder: Option<&Entry>) -> Vec<u64> {
 
 fn calls_that_name(address: u64, size: u64) -> [String; 3] {
     [format!("release {address} {size}"), format!("extend {address} {size} 1"), format!("shorten {address} {size} 1")]
+}
+
+/// Files of up to 17 entries, and of as many as a power of two up to the most, one more and one less: where a search by halves would miss one.
+/// An entry is named at its start, with its size and with another, behind its start and at its last byte. No call is accepted, so a file is set
+/// once; a shorten by all bytes is refused 9 where the piece was found.
+pub fn counts() -> Vec<String> {
+    let edges = (5..=10).flat_map(|power| [(1 << power) - 1, 1 << power, (1 << power) + 1]).filter(|count| *count <= 1_024);
+    opened((0..=17).chain(edges).flat_map(each_entry))
+}
+
+/// Live and free entries of a page each, so many of them, all named.
+fn each_entry(count: u64) -> Vec<String> {
+    let page = STATE.page;
+    let is_free = |i: u64| i % 3 == 1 && i + 1 < count;
+    let entry = |i: u64| Entry { address: i * page, size: page, kind: if is_free(i) { FREE_LARGE } else { LIVE_LARGE } };
+    let entries: Vec<Entry> = (0..count).map(entry).collect();
+    let state = State { page, limit: LARGEST_LIMIT, end: count * page, count };
+    let table = table_of(&entries, entries.len().max(4) * ENTRY_WORDS);
+    let named = |at: u64| {
+        let releases = [(at, page + 1), (at + 1, page), (at + page - 1, 1)].map(|(address, size)| format!("release {address} {size}"));
+        releases.into_iter().chain([format!("shorten {at} {page} {page}")])
+    };
+    let calls = (0..=count).flat_map(|i| named(i * page)).chain([show_words(), show_summary()]);
+    set(&state, &table).into_iter().chain(calls).collect()
 }
 
 /// The largest table with all entries taken, 512 pages of a small piece and a free rest: calls that need an entry more, and calls that need

@@ -1,6 +1,6 @@
 //! The tests of the tests: the runner finds nothing between the model and itself, and finds each of document 01's errors, each error in a
-//! summary and each in what is wrong with a name, by random scripts alone, shrunk to few lines. Those in a name it finds by request E3's claims
-//! alone and by the sweep of names alone, too.
+//! summary, each in what is wrong with a name and in the way to it, by random scripts alone, shrunk to few lines. Those in a name it finds by
+//! request E3's claims alone and by the sweep of names alone, too; those in the way to it by the sweep of counts alone.
 
 use difftest::document::script_of;
 use difftest::draw::Draw;
@@ -16,6 +16,9 @@ const MODEL: &str = env!("CARGO_BIN_EXE_model_filespace");
 
 /// The slips in what is wrong with a name.
 const OF_A_NAME: [&str; 4] = ["free-told-as-inside", "end-told-as-free", "other-size-told-as-inside", "beyond-the-end-a-byte-late"];
+
+/// The slips in the way to a named piece.
+const BY_HALVES: [&str; 2] = ["half-passes-over-an-entry", "half-leaves-out-the-last-entry"];
 
 /// The model with a slip.
 fn wrong_model(slip: &str) -> Program {
@@ -68,6 +71,14 @@ fn the_claims_of_request_e3_find_every_slip_in_a_name() {
 fn the_sweep_of_names_finds_every_slip_in_a_name() {
     let lines = sweep::names();
     for name in OF_A_NAME {
+        assert!(compare(&wrong_model(name), &lines, &mut Tally::default()).is_some(), "{name} was not found");
+    }
+}
+
+#[test]
+fn the_sweep_of_counts_finds_every_slip_by_halves() {
+    let lines = sweep::counts();
+    for name in BY_HALVES {
         assert!(compare(&wrong_model(name), &lines, &mut Tally::default()).is_some(), "{name} was not found");
     }
 }

@@ -1,3 +1,4 @@
 -- The laws that the proofs of this and of the higher crates cite.
 pub mod FindLaws
+pub mod HalfLaws
 pub mod WalkLaws

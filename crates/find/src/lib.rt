@@ -1,8 +1,6 @@
 // What an address and a size name in a table: a live piece, or else what is wrong with them. The entry in which the address lies decides.
 ghost use mathlib.Core.Path.{_≡_};
-ghost use Prim.Native.Nat.{_*_, _≤_};
-ghost use lib.ListN.{length};
-ghost use Rattle.pieces.specs.Words.{entryWords, entries};
+ghost use Rattle.pieces.specs.Words.{entries};
 ghost use Rattle.find.specs.Find.{toldOf, findIn};
 ghost use Rattle.find.specs.Walk.{Started, FindFits};
 use pieces::Piece;
@@ -19,19 +17,23 @@ pub enum Found {
     OtherSize,
 }
 
-// How many of the n entries start at or before the address, up to the first that does not.
+// How many of the n entries start at or before the address. Those before `low` do, and those from `high` on do not: what lies between is halved
+// until nothing is left of it.
 fn started(address: u64, n: usize, table: &[u64]) -> usize
-    requires { ⌜ n * entryWords ≤ length (now table) ⌝ }
+    requires { ⌜ FindFits n (now table) ⌝ }
     ensures { λ r. ⌜ Started address n (now (table .entry)) r ⌝ }
 {
-    let mut i: usize = 0;
-    while i < n {
-        if address < address_at(table, i) {
-            return i;
+    let mut low: usize = 0;
+    let mut high = n;
+    while low < high {
+        let middle = low + (high - low) / 2;
+        if address < address_at(table, middle) {
+            high = middle;
+        } else {
+            low = middle + 1;
         }
-        i = i + 1;
     }
-    i
+    low
 }
 
 // What is told of an address and a size, where the address lies in this piece, entry i.
