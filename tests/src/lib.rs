@@ -6,15 +6,15 @@
 //!   script     the program's script language, answered by the model
 //!   document   document 01's own run and sentences, as calls with their answers
 //!   request_e2, request_e3   the sentences of these requests, in the same form
-//!   sweep      scripts that change a good table, state or message in each place in turn, or name a piece at each address
+//!   sweep      scripts that change a good table, state or message in each place in turn, or name a piece at each address or entry
 //!   generate   random scripts, drawn with the model's knowledge of the table
 //!   draw       random numbers from a seed
 //!   tally      what was compared, and what a run must not lack
 //!   play       a script played through a program, compared, and shrunk on a difference
 //!
 //! Programs: `runner` plays scripts through the program that it is given; `model_filespace` speaks the program's script
-//! language with the model, right or with one of document 01's errors, one in a summary or one in what is wrong with a name, so that the runner
-//! itself can be tested.
+//! language with the model, right or with one of document 01's errors, one in a summary, or one in what is wrong with a name or in the way to it,
+//! so that the runner itself can be tested.
 
 pub mod document;
 pub mod draw;

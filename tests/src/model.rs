@@ -12,8 +12,9 @@
 //!
 //! What is document 01's was written from it, and from decisions handed to the writer where it leaves a corner open; the library and its specs
 //! were not read. What is the summary's was written from request E2's words, before the library had a summary; what is wrong with a name, from
-//! request E3's words, and again the library was not read. Sums that could pass 2^64 are over u128. Not here: the numbers of a summary
-//! (summary.rs), and the File Space Info message.
+//! request E3's words, and again the library was not read. Only the two slips by halves follow the library's loop, each with one error in it; the
+//! model itself looks at every entry. Sums that could pass 2^64 are over u128. Not here: the numbers of a summary (summary.rs), and the File Space
+//! Info message.
 
 use crate::summary::{Summary, Totals};
 
@@ -24,7 +25,7 @@ pub const DEFAULT_PAGE: u64 = 4096;
 pub const DEFAULT_LIMIT: u64 = LARGEST_LIMIT;
 pub const ENTRY_WORDS: usize = 3;
 const LEAST_TABLE: usize = 4 * ENTRY_WORDS;
-const LARGEST_TABLE: usize = 1_024 * ENTRY_WORDS;
+pub const LARGEST_TABLE: usize = 1_024 * ENTRY_WORDS;
 
 pub const METADATA: u64 = 1;
 pub const RAW: u64 = 2;

@@ -8,7 +8,7 @@
 //!   messages   the good messages
 
 use crate::message::{bytes_of, Fields, ABSENT, FULL_LENGTH, HEAD_LENGTH, UNDEFINED};
-use crate::model::{entries_of, table_of, Entry, State, ENTRY_WORDS, FREE_LARGE, LARGEST_LIMIT, LIVE_LARGE};
+use crate::model::{entries_of, table_of, Entry, State, ENTRY_WORDS, FREE_LARGE, LARGEST_LIMIT, LARGEST_TABLE, LIVE_LARGE};
 use crate::script::{fresh, read_line, show_summary, show_words, six, state_line, summary_line, words_line, write_line, LONGEST_LINE, MOST_WORDS};
 use crate::summary::{Summary, Totals, COUNTS, TOTALS};
 
@@ -90,7 +90,7 @@ fn each_number_of_the_state() -> Vec<String> {
 
 /// The table cut short or with zero words behind it: sound from its entries on, where the words are those of whole entries.
 fn each_length_of_a_table() -> Vec<String> {
-    let most = 1_024 * ENTRY_WORDS;
+    let most = LARGEST_TABLE;
     let lengths = (0..16 * ENTRY_WORDS).chain([most - ENTRY_WORDS, most - ENTRY_WORDS + 1, most, most + 1, most + ENTRY_WORDS, MOST_WORDS]);
     probed(lengths.map(|length| {
         let mut table = table();
@@ -214,7 +214,8 @@ fn calls_that_name(address: u64, size: u64) -> [String; 3] {
 /// An entry is named at its start, with its size and with another, behind its start and at its last byte. No call is accepted, so a file is set
 /// once; a shorten by all bytes is refused 9 where the piece was found.
 pub fn counts() -> Vec<String> {
-    let edges = (5..=10).flat_map(|power| [(1 << power) - 1, 1 << power, (1 << power) + 1]).filter(|count| *count <= 1_024);
+    let most = (LARGEST_TABLE / ENTRY_WORDS) as u64;
+    let edges = (5..=10).flat_map(|power| [(1 << power) - 1, 1 << power, (1 << power) + 1]).filter(|count| *count <= most);
     opened((0..=17).chain(edges).flat_map(each_entry))
 }
 
@@ -239,7 +240,7 @@ fn each_entry(count: u64) -> Vec<String> {
 fn largest_table() -> Vec<String> {
     let page = |at: u64| [Entry { address: at, size: 300, kind: 1 }, Entry { address: at + 300, size: 212, kind: 4 }];
     let entries: Vec<Entry> = (0..512).flat_map(|i| page(512 * i)).collect();
-    let table = table_of(&entries, 1_024 * ENTRY_WORDS);
+    let table = table_of(&entries, LARGEST_TABLE);
     let calls = [
         "allocate metadata 213",
         "allocate metadata 211",

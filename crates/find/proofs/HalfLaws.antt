@@ -2,8 +2,8 @@
 --
 --   Between a n w low high    of n entries those before `low` start at or before the address a, and entry `high`, if there is one, does not
 --   whole                     nothing is known of the entries yet: all of them are the range
---   upper-half, lower-half    of entries that rise, where entry m of the range starts at or before the address, and where it does not: the half
---                             behind it is left, or the half before it
+--   upper-half                where entry m of the range starts at or before the address, and the entries rise, the half behind it is left
+--   lower-half                where it does not, the half before it
 --   closed                    an empty range tells how many entries start at or before the address
 --   halvings m                how often m can be halved until nothing is left: its binary digits
 --   at-most                   what is less than 2 ^ k can be halved k times at most
