@@ -7,7 +7,6 @@
 --   refused-with, refused-placing       a call that decided to refuse leaves the summary
 --   released-fits, resized-fits, allocated-fits     what carrying out asks, from what was decided
 --   changed-with, placed-with           a call that carried out a plan leaves the summary of the new table
---   released-unsound, resized-unsound   a release and a resizing of an unsound table, without a summary
 --   opened-with                         an opening
 --   freshened-not, -done, fresh-whole   the summary worked out afresh
 --
@@ -28,7 +27,6 @@ use Rattle.change.specs.declared.plan.Plan.{Plan}
 use Rattle.pages.proofs.Numbers.{and-left, and-right, both, not-both, passes, fails}
 use Rattle.pieces.specs.Words.{entries}
 use Rattle.refusals.specs.AnswerNumbers.{notSound, openNumber}
-use Rattle.space.proofs.GiveLaws.{naming-unsound, released-naming, resized-naming}
 use Rattle.space.proofs.OutcomeLaws.{is-sound-true}
 use Rattle.space.specs.Giving.{released, resized}
 use Rattle.space.specs.Halves.{Carries, Refuses}
@@ -158,14 +156,6 @@ module _ (sp : Space) (w : List ℕ) (s : Summary) {r : Bool} (is : r ≡ (sound
 
     pub allocated-fits : (t n : ℕ) {plan : Plan} → Carries sp w (allocated sp t n w .outcome) plan → ChangeFits sp w s plan
     allocated-fits t n d = fits d (changed-sound sound-agreed (allocated-put sp w sound-agreed t n (done d) .changed))
-
--- ---- an unsound table, without a summary
-
-pub released-unsound : (sp : Space) (a z : ℕ) (w : List ℕ) → soundb sp w ≡ false → released sp a z w ≡ refused notSound sp w
-released-unsound sp a z w e = released-naming sp a z w ∙ naming-unsound sp w _ a z _ e
-
-pub resized-unsound : (sp : Space) (a z : ℕ) (way : Way) (m : ℕ) (w : List ℕ) → soundb sp w ≡ false → resized sp a z way m w ≡ refused notSound sp w
-resized-unsound sp a z way m w e = resized-naming sp a z way m w refl ∙ naming-unsound sp w _ a z _ e
 
 -- ---- an opening
 

@@ -29,7 +29,7 @@ use Rattle.refusals.specs.AnswerNumbers.{beyondEnd, inFree, insideLive, otherSi
 use Rattle.refusals.specs.declared.NotNamed.the-variants.{NoBytes}
 use Rattle.refusals.specs.declared.NotResized.the-variants.{NoRoomBehind, BeyondLimit, TooLittleLeft}
 use Rattle.room.specs.Room.{roomBehindb, growsBeyondb, remainsb}
-use Rattle.space.proofs.GiveLaws.{naming-unsound, released-naming, resized-naming}
+use Rattle.space.proofs.GiveLaws.{released-unsound, resized-unsound}
 use Rattle.space.proofs.ListLaws.{listed-unsound}
 use Rattle.space.proofs.OpenLaws.{nowhere-unsound}
 use Rattle.space.proofs.PlaceLaws.{allocated-unsound}
@@ -172,17 +172,15 @@ calls-answered (releases a z) sp w = released-answered sp w a z
 calls-answered (extends a z m) sp w = extended-answered sp w a z m
 calls-answered (shortens a z k) sp w = shortened-answered sp w a z k
 
--- the front refuses what is not sound
-nowhere-naming : (w : List ℕ) (zero : Bool) (a z : ℕ) (found : ℕ → Piece → Outcome) (o : Outcome) → o ≡ naming nowhere w zero a z found
-    → o .refusal ≡ notSound
-nowhere-naming w zero a z found o e = ap (λ (v : Outcome). v .refusal) (e ∙ naming-unsound nowhere w zero a z found (nowhere-unsound w))
+refusal-of : {o p : Outcome} → o ≡ p → o .refusal ≡ p .refusal
+refusal-of e = ap (λ (v : Outcome). v .refusal) e
 
 nowhere-calls : (c : Call) (w : List ℕ) → OnSpace c → called c nowhere w .refusal ≡ notSound
 unfolding called
 nowhere-calls c w (allocating {t = t} {s = s}) = ap (λ (p : Placed). p .outcome .refusal) (allocated-unsound nowhere t s w (nowhere-unsound w))
-nowhere-calls c w (releasing {a = a} {z = z}) = nowhere-naming w _ a z _ _ (released-naming nowhere a z w)
-nowhere-calls c w (extending {a = a} {z = z} {m = m}) = nowhere-naming w _ a z _ _ (resized-naming nowhere a z Longer m w refl)
-nowhere-calls c w (shortening {a = a} {z = z} {k = k}) = nowhere-naming w _ a z _ _ (resized-naming nowhere a z Shorter k w refl)
+nowhere-calls c w (releasing {a = a} {z = z}) = refusal-of (released-unsound nowhere a z w (nowhere-unsound w))
+nowhere-calls c w (extending {a = a} {z = z} {m = m}) = refusal-of (resized-unsound nowhere a z Longer m w (nowhere-unsound w))
+nowhere-calls c w (shortening {a = a} {z = z} {k = k}) = refusal-of (resized-unsound nowhere a z Shorter k w (nowhere-unsound w))
 
 nowhere-list : (m : ℕ) (w v : List ℕ) → listed nowhere m w v .refusal ≡ notSound
 nowhere-list m w v = ap (λ (o : ListOutcome). o .refusal) (listed-unsound nowhere m w v (nowhere-unsound w))

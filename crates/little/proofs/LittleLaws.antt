@@ -1,7 +1,7 @@
 -- The laws of numbers in bytes, over the width.
 --
--- In this order: parts of bytes are bytes; `little` of one byte more, and its bound; `bytesOf` and how it and `little` undo each other; the
--- same of several numbers; parts at places; several numbers in parts; one number more, as a loop over several goes on.
+-- In this order: parts of bytes are bytes; `little` of one byte more and of a word, and its bound; `bytesOf`, also as bytes that are stored one by
+-- one, and how it and `little` undo each other; the same of several numbers; parts at places; several numbers in parts; one number more, as a loop over several goes on.
 --
 -- Not here: laws of lists (lib.Seq), of `/`, `%` and `^` (native.Mathlib.Nat). Assumes nothing.
 use Prim.Native.Nat.{ℕ, zero, suc, _+_, _-_, _*_, _/_, _%_, _^_, _≤_, _<_, zero-le}
@@ -11,11 +11,11 @@ use native.Mathlib.Nat.{sub-zero, zero-sub, suc-sub-suc, lt-of-lt-of-le, pow-suc
 use native.Mathlib.Numerals.{add-one}
 use native.Mathlib.Omega.{arith}
 use lib.Dec.{lit<}
-use lib.ListN.{length, take, drop, getD, set, replicate, length-append, length-take, length-drop, take-append-drop, drop-of-length-le}
+use lib.ListN.{length, take, drop, getD, set, replicate, length-append, length-take, length-drop, length-set, take-append-drop, drop-of-length-le}
 use lib.Seq.{drop-cons, length-take-le, take-all, take-suc, take-suc-set, append-snoc, getD-drop, take-at, drop-at, drop-append-add}
 use lib.Seq.{drop-drop, set-split, take-take, take-add, take-nil}
 use borrow.Rule.Slice.PartMut.{putMid, post-is}
-use Rattle.little.specs.Little.{byteValues, little, bytesOf, numbers, bytesOfAll, part, valueAt, laid, Bytes, Below}
+use Rattle.little.specs.Little.{byteValues, wordBytes, little, bytesOf, numbers, bytesOfAll, part, valueAt, laid, Bytes, Below}
 
 pow-pos : (w : ℕ) → 0 < byteValues ^ w
 pow-pos w = let p : byteValues ^ 0 ≤ byteValues ^ w = pow-le-pow-right (lit< tt) zero-le in p
@@ -55,6 +55,18 @@ little-down bs i h =
     let next : length bs - i ≡ suc (length bs - 1 - i) = omega arith in
     rw (at, next) (sym (little-cons bs (length bs - 1 - i) (omega arith)))
 
+-- the eight bytes of a word, each by its place
+pub little-word : (b : List ℕ) → length b ≡ wordBytes
+    → getD b 0 0 + 256 * getD b 1 0 + 65536 * getD b 2 0 + 16777216 * getD b 3 0 + 4294967296 * getD b 4 0 + 1099511627776 * getD b 5 0
+    + 281474976710656 * getD b 6 0 + 72057594037927936 * getD b 7 0
+    ≡ little b
+unfolding little
+little-word b l =
+    let at : (i : ℕ) → i < wordBytes → little (drop i b) ≡ getD b i 0 + byteValues * little (drop (suc i) b) = λ i h. little-cons b i (omega arith) in
+    let short : length b ≤ 8 = omega arith in
+    let none : little (drop 8 b) ≡ 0 = ap little (drop-of-length-le b short) in
+    omega (arith, at 0 (lit< tt), at 1 (lit< tt), at 2 (lit< tt), at 3 (lit< tt), at 4 (lit< tt), at 5 (lit< tt), at 6 (lit< tt), at 7 (lit< tt), none)
+
 pub little-lt : (bs : List ℕ) → Bytes bs → little bs < byteValues ^ length bs
 unfolding little
 little-lt [] h = lit< tt
@@ -90,6 +102,20 @@ bytesOf-end out i n rest h l =
     let e : n - i ≡ zero = omega arith in
     let m : length out ≤ i = omega arith in
     rw (e, take-all i out m, append-nil)
+
+-- k bytes laid one after the other, the first at the place i
+unfoldable pub stored : ℕ → ℕ → List ℕ → ℕ → List ℕ
+stored zero i out rest = out
+stored (suc k) i out rest = stored k (i + 1) (set out i (rest % byteValues)) (rest / byteValues)
+
+pub stored-is : (k i : ℕ) (out : List ℕ) (rest : ℕ) → length out ≡ i + k → stored k i out rest ≡ take i out ++ bytesOf k rest
+unfolding stored bytesOf
+stored-is zero i out rest l = let m : length out ≤ i = omega arith in sym (append-nil (take i out) ∙ take-all i out m)
+stored-is (suc k) i out rest l =
+    let m : i < length out = omega arith in
+    let n : length (set out i (rest % byteValues)) ≡ i + 1 + k = simp length-set (omega arith) in
+    stored-is k (i + 1) (set out i (rest % byteValues)) (rest / byteValues) n
+    ∙ rw (add-one, take-suc-set out i (rest % byteValues)) (append-snoc (take i out) (rest % byteValues) (bytesOf k (rest / byteValues)))
 
 pub little-bytesOf : (w v : ℕ) → v < byteValues ^ w → little (bytesOf w v) ≡ v
 unfolding little bytesOf
@@ -328,12 +354,12 @@ unfolding bytesOfAll
 bytesOfAll-none w vs b = let e : 0 * w ≡ 0 = omega arith in rw e (laid-none b)
 
 pub bytesOfAll-up : (w i : ℕ) (vs : List ℕ) {b c d : List ℕ} → Laid b (bytesOfAll w (take i vs)) c (i * w) → i < length vs
-    → d ≡ laid (i * w) (i * w + w) (bytesOf (i * w + w - i * w) (getD vs i 0)) c → Laid b (bytesOfAll w (take (i + 1) vs)) d ((i + 1) * w)
+    → d ≡ laid (i * w) (i * w + w) (bytesOf w (getD vs i 0)) c → Laid b (bytesOfAll w (take (i + 1) vs)) d ((i + 1) * w)
 bytesOfAll-up w i vs s h e =
     let g : (i + 1) * w ≡ i * w + w = omega arith in
-    let t : bytesOfAll w (take (i + 1) vs) ≡ bytesOfAll w (take i vs) ++ bytesOf (i * w + w - i * w) (getD vs i 0) =
-    rw (add-one, take-suc vs i 0 h, bytesOfAll-append, bytesOfAll-one, width-at i w) in
-    rw (t, g) (laid-number s (i * w + w) (getD vs i 0) (omega arith) e)
+    let t : bytesOfAll w (take (i + 1) vs) ≡ bytesOfAll w (take i vs) ++ bytesOf w (getD vs i 0) =
+    rw (add-one, take-suc vs i 0 h, bytesOfAll-append, bytesOfAll-one) in
+    rw (t, g) (laid-next s (i * w + w) (bytesOf w (getD vs i 0)) (length-bytesOf w (getD vs i 0) ∙ sym (width-at i w)) (omega arith) e)
 
 pub bytesOfAll-end : (w i : ℕ) (vs : List ℕ) {b c : List ℕ} → Laid b (bytesOfAll w (take i vs)) c (i * w) → length vs ≤ i → length b ≤ i * w
     → c ≡ bytesOfAll w vs

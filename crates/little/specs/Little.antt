@@ -1,6 +1,7 @@
 -- Numbers in bytes, the lowest byte first, for any width and at any place.
 --
 --   byteValues        how many values a byte has
+--   wordBytes         how many bytes a word has, a number of 64 bits
 --   little bs         the number that the bytes bs are
 --   bytesOf w v       the lowest w bytes of the number v
 --   numbers w n bs    the first n numbers of w bytes each in bs
@@ -18,6 +19,9 @@ use lib.ListN.{take, drop, getD}
 
 abbrev pub byteValues : ℕ
 byteValues = 256
+
+abbrev pub wordBytes : ℕ
+wordBytes = 8
 
 unfoldable pub little : List ℕ → ℕ
 little [] = 0

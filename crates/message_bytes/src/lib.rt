@@ -8,7 +8,6 @@ ghost use Rattle.message_fields.specs.Fields.{lengthOf};
 ghost use Rattle.message_fields.specs.Layout.{headLength, addressWidth, addressesLength};
 ghost use Rattle.message_bytes.specs.Tail.{addressesOf};
 ghost use Rattle.message_bytes.specs.Parts.{headFields, fieldsOf, headOf, messageOf};
-use message_fields::ADDRESS_WIDTH;
 use message_fields::EOA_AT;
 use message_fields::FULL_LENGTH;
 use message_fields::Fields;
@@ -31,12 +30,7 @@ fn addresses(part: &[u8]) -> [u64; TYPES]
     ensures { λ r. ⌜ r ≡ addressesOf (now (part .entry)) ⌝ }
 {
     let mut found = [0u64; TYPES];
-    let mut i = 0;
-    while i < TYPES {
-        let at = i * ADDRESS_WIDTH;
-        found[i] = little::get_part(part, at, at + ADDRESS_WIDTH);
-        i += 1;
-    }
+    little::get_words(part, &mut found);
     found
 }
 
@@ -78,12 +72,7 @@ fn put_addresses(addresses: [u64; TYPES], part: &mut [u8])
     requires { ⌜ length (now part) ≡ addressesLength ⌝ }
     ensures { λ _. ⌜ now (part .exit) ≡ bytesOfAll addressWidth addresses ⌝ }
 {
-    let mut i = 0;
-    while i < TYPES {
-        let at = i * ADDRESS_WIDTH;
-        little::put_part(addresses[i], part, at, at + ADDRESS_WIDTH);
-        i += 1;
-    }
+    little::put_words(&addresses, part);
 }
 
 // Writes the fields that stand before the addresses.

@@ -33,10 +33,8 @@ pub const LARGE_AT: usize = 77;
 
 pub const FULL_LENGTH: usize = 125;
 
-// Of the small managers and of the large ones there is an address for each type, of this width.
+// Of the small managers and of the large ones there is an address for each type, a word each.
 pub const TYPES: usize = 6;
-
-pub const ADDRESS_WIDTH: usize = 8;
 
 // No message is shorter than this.
 pub const LEAST_LENGTH: usize = HEAD_LENGTH;

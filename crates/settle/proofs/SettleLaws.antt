@@ -5,6 +5,7 @@
 --   ready-without, ready-with             one with room is a plan for the new live pieces
 --   full-without, full-with               and without room the new live pieces need too many entries
 --   carried-laid, -entries, -new          carried out, a plan leaves the entries in front, the new ones, and those behind
+--   length-carried, carried-front, -back  the words that a plan leaves as they were
 --   carry-fits, carried-table             one with room can be carried out, and then the table is that of the new live pieces
 --
 -- Assumes nothing.
@@ -12,17 +13,19 @@ use Prim.Native.Nat.{ℕ, _+_, _-_, _*_, _≤_, _<_}
 use mathlib.Core.List.{List, [], _∷_, _++_}
 use mathlib.Core.Path.{_≡_, refl, sym, ap, _∙_}
 use native.Mathlib.Omega.{arith}
-use lib.ListN.{length, take, length-append}
-use lib.Seq.{take-at, drop-at}
+use lib.ListN.{length, take, drop, replicate, length-append}
+use lib.Seq.{take-at, drop-at, length-take-le}
 use borrow.Author.Tests.{lt-ltb, le-ltb}
 use Rattle.change.proofs.PlanLaws.{planned-without, planned-with}
 use Rattle.change.specs.Change.{planWithout, planWith, PlanFits, Planned}
 use Rattle.change.specs.declared.plan.Plan.{Plan}
 use Rattle.edit.proofs.EditLaws.{spliced-table}
+use Rattle.edit.specs.Edit.{spliced}
 use Rattle.edit.specs.New.{newEntries}
 use Rattle.pages.proofs.Numbers.{split}
 use Rattle.pieces.proofs.WordLaws.{entries-of-table, length-entries, entries-append, take-entries, drop-entries}
-use Rattle.pieces.specs.Words.{entryWords, entries, table}
+use Rattle.pieces.proofs.WordLaws.{length-table, zeros-of-table, zeros-replicate}
+use Rattle.pieces.specs.Words.{entryWords, entries, table, Zeros}
 use Rattle.pieces.specs.declared.Piece.{Piece}
 use Rattle.rules.specs.Between.{livesWith}
 use Rattle.settle.specs.Settle.{ifRoom, carriedOut, SettleFits, CarryFits, Settles}
@@ -128,6 +131,26 @@ module _ {n : ℕ} {w : List ℕ} {plan : Plan} (f : CarryFits n w plan) where
 
   pub carried-entries : entries (carriedOut n w plan) 0 (plan .count) ≡ left
   carried-entries = rw (carried-laid, ← left-count) (entries-of-table (length w) left)
+
+  pub length-carried : length (carriedOut n w plan) ≡ length w
+  length-carried =
+      let fits : length left * entryWords ≤ length w = omega (arith, left-count, f .room) in
+      ap length carried-laid ∙ length-table (length w) left fits
+
+  -- the words before those that went are as they were, and so are those behind all entries, old and new: these are 0
+  pub carried-front : take (plan .from * entryWords) (carriedOut n w plan) ≡ take (plan .from * entryWords) w
+  unfolding spliced
+  carried-front =
+      let long : plan .from * entryWords ≤ length w = omega (arith, f .low, f .high, count-fits (f .sound .ranges)) in
+      take-at (take (plan .from * entryWords) w) _ (plan .from * entryWords) (length-take-le (plan .from * entryWords) w long)
+
+  pub carried-back : (m : ℕ) → n ≤ m → plan .count ≤ m → drop (m * entryWords) (carriedOut n w plan) ≡ drop (m * entryWords) w
+  carried-back m old new =
+      let v : List ℕ = carriedOut n w plan in
+      let zeros : Zeros v (plan .count) = rw (carried-laid, ← left-count) (zeros-of-table (length w) left) in
+      zeros-replicate v m (λ i h l. zeros i (omega (arith, h, new)) l)
+      ∙ (ap (λ (k : ℕ). replicate (k - m * entryWords) 0) length-carried
+      ∙ sym (zeros-replicate w m (λ i h l. f .sound .zeros i (omega (arith, h, old)) l)))
 
   -- the new ones among them
   pub carried-new : entries (carriedOut n w plan) (plan .from) (length (newEntries (plan .new))) ≡ newEntries (plan .new)

@@ -3,6 +3,7 @@
 --   named-zero, named-asked                 the named entry, test by test
 --   naming-unsound, -sound, -not            the front of the three calls
 --   released-naming, resized-naming         each call is that front and what it does to the piece
+--   released-unsound, resized-unsound       each call of an unsound table
 --   released-found, resized-found           which is its half, of the piece that was found
 --   found-in                                the entry of a named piece, in a sound table
 --   settle-fits, grow-fits, found-limit     the sums of a sound table stay within the limit
@@ -152,6 +153,12 @@ pub resized-naming : (sp : Space) (a z : ℕ) (way : Way) (m : ℕ) (w : List �
     → resized sp a z way m w ≡ naming sp w zero a z (resizedAt sp a z way m w)
 unfolding resized
 resized-naming sp a z way m w e = ap (λ (t : Bool). naming sp w t a z (resizedAt sp a z way m w)) (sym e)
+
+pub released-unsound : (sp : Space) (a z : ℕ) (w : List ℕ) → soundb sp w ≡ false → released sp a z w ≡ refused notSound sp w
+released-unsound sp a z w e = released-naming sp a z w ∙ naming-unsound sp w _ a z _ e
+
+pub resized-unsound : (sp : Space) (a z : ℕ) (way : Way) (m : ℕ) (w : List ℕ) → soundb sp w ≡ false → resized sp a z way m w ≡ refused notSound sp w
+resized-unsound sp a z way m w e = resized-naming sp a z way m w refl ∙ naming-unsound sp w _ a z _ e
 
 -- a piece that is named is found, and its half decides
 module _ (sp : Space) (a z : ℕ) (w : List ℕ) (s : SoundSpace sp w) (i : ℕ) (x : Piece) where

@@ -2,8 +2,9 @@
 -- Assumes nothing.
 use mathlib.Core.Path.{subst}
 use borrow.Author.Needs.{needs}
-use Rattle.by_value.proofs.WithLaws.{sound-agreed, not-agreed, refused-with, changed-with, released-unsound, released-fits}
+use Rattle.by_value.proofs.WithLaws.{sound-agreed, not-agreed, refused-with, changed-with, released-fits}
 use Rattle.by_value.specs.With.{releasedWith}
+use Rattle.space.proofs.GiveLaws.{released-unsound}
 use Rattle.space.specs.Halves.{ReleaseLeads}
 use Rattle.by_value.proofs.release.Statement.{statement}
 use Rattle.by_value.proofs.release.Tie as tie

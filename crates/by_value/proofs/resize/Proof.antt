@@ -2,8 +2,9 @@
 -- Assumes nothing.
 use mathlib.Core.Path.{subst}
 use borrow.Author.Needs.{needs}
-use Rattle.by_value.proofs.WithLaws.{sound-agreed, not-agreed, refused-with, changed-with, resized-unsound, resized-fits}
+use Rattle.by_value.proofs.WithLaws.{sound-agreed, not-agreed, refused-with, changed-with, resized-fits}
 use Rattle.by_value.specs.With.{resizedWith}
+use Rattle.space.proofs.GiveLaws.{resized-unsound}
 use Rattle.space.specs.Halves.{ResizeLeads}
 use Rattle.by_value.proofs.resize.Statement.{statement}
 use Rattle.by_value.proofs.resize.Tie as tie

@@ -3,7 +3,7 @@
 use mathlib.Core.Path.{sym, _∙_, subst}
 use borrow.Author.Needs.{needs}
 use Rattle.pages.proofs.Numbers.{fails}
-use Rattle.space.proofs.GiveLaws.{naming-unsound, released-naming}
+use Rattle.space.proofs.GiveLaws.{released-unsound}
 use Rattle.space.proofs.OutcomeLaws.{tested}
 use Rattle.space.specs.Halves.{ReleaseLeads}
 use Rattle.space.proofs.Space.release.Statement.{statement}
@@ -19,7 +19,7 @@ returns : tie.Need-returns
 returns c =
     let a = c .before .before .before .before .args in
     let unsound = fails (c .before .is-sound .ensures) (c .if1 .taken) in
-    sym (released-naming (a .self) (a .address) (a .size) (a .table .now) ∙ naming-unsound (a .self) (a .table .now) _ (a .address) (a .size) _ unsound)
+    sym (released-unsound (a .self) (a .address) (a .size) (a .table .now) unsound)
 
 decide-release-requires : tie.Need-decide-release-requires
 decide-release-requires c κs =

@@ -1,9 +1,9 @@
 -- `space::Space::resize` meets its contract: refusal 2 is the law of a table that is not sound; of a sound one it does what was decided.
 -- Assumes nothing.
-use mathlib.Core.Path.{refl, sym, _∙_, subst}
+use mathlib.Core.Path.{sym, _∙_, subst}
 use borrow.Author.Needs.{needs}
 use Rattle.pages.proofs.Numbers.{fails}
-use Rattle.space.proofs.GiveLaws.{naming-unsound, resized-naming}
+use Rattle.space.proofs.GiveLaws.{resized-unsound}
 use Rattle.space.proofs.OutcomeLaws.{tested}
 use Rattle.space.specs.Halves.{ResizeLeads}
 use Rattle.space.proofs.Space.resize.Statement.{statement}
@@ -19,8 +19,7 @@ returns : tie.Need-returns
 returns c =
     let a = c .before .before .before .before .args in
     let unsound = fails (c .before .is-sound .ensures) (c .if1 .taken) in
-    let front = resized-naming (a .self) (a .address) (a .size) (a .way) (a .by) (a .table .now) refl in
-    sym (front ∙ naming-unsound (a .self) (a .table .now) _ (a .address) (a .size) _ unsound)
+    sym (resized-unsound (a .self) (a .address) (a .size) (a .way) (a .by) (a .table .now) unsound)
 
 decide-resize-requires : tie.Need-decide-resize-requires
 decide-resize-requires c κs =
