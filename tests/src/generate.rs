@@ -2,6 +2,7 @@
 //! table, and tables, states and summaries that are damaged in one place.
 //!
 //!   script     a script from a seed: calls on a space, on a wide table, on messages, or openings at the edges of their ranges
+//!   Sort       which of these a script has; `script_of` makes one of a sort
 //!
 //! Every call on a space is followed by `show words` and `show summary`; those that fill a wide table by the summary alone. Where a state or
 //! a table is set by hand, the summary of before would be refused whatever they are: it is mostly set to that of the entries, or worked out
@@ -45,14 +46,31 @@ struct Author<'d> {
     lines: Vec<String>,
 }
 
+#[derive(Clone, Copy, Debug)]
+pub enum Sort {
+    WideTable,
+    Openings,
+    Messages,
+    Space,
+}
+
 pub fn script(draw: &mut Draw) -> Vec<String> {
-    let sort = draw.below(100);
+    let sort = match draw.below(100) {
+        0 => Sort::WideTable,
+        1..=3 => Sort::Openings,
+        4..=11 => Sort::Messages,
+        _ => Sort::Space,
+    };
+    script_of(sort, draw)
+}
+
+pub fn script_of(sort: Sort, draw: &mut Draw) -> Vec<String> {
     let mut author = Author { draw, machine: Machine::default(), lines: Vec::new() };
     match sort {
-        0 => author.wide_table(),
-        1..=3 => author.openings(),
-        4..=11 => author.messages(),
-        _ => author.space(),
+        Sort::WideTable => author.wide_table(),
+        Sort::Openings => author.openings(),
+        Sort::Messages => author.messages(),
+        Sort::Space => author.space(),
     }
     author.lines
 }

@@ -1,4 +1,4 @@
-//! Differential tests of the program `filespace`.
+//! Differential tests of the program `filespace`, and of the static library over an area of bytes.
 //!
 //!   model      document 01's space with request E2's summary and request E3's refusals: soundness, opening and the calls, read literally
 //!   summary    the numbers of a summary, worked out from entries
@@ -11,16 +11,24 @@
 //!   draw       random numbers from a seed
 //!   tally      what was compared, and what a run must not lack
 //!   play       a script played through a program, compared, and shrunk on a difference
+//!   area       request E5's calls over an area of bytes
+//!   area_cases document 01's run, sweeps and random runs over an area
+//!   area_play  such calls played through a host of the static library, and compared
+//!   options    the words of a runner's command
 //!
 //! Programs: `runner` plays scripts through the program that it is given; `model_filespace` speaks the program's script
 //! language with the model, right or with one of document 01's errors, one in a summary, or one in what is wrong with a name or in the way to it,
-//! so that the runner itself can be tested.
+//! so that the runner itself can be tested. `area` plays calls over an area through tests/area_host.c.
 
+pub mod area;
+pub mod area_cases;
+pub mod area_play;
 pub mod document;
 pub mod draw;
 pub mod generate;
 pub mod message;
 pub mod model;
+pub mod options;
 pub mod play;
 pub mod request_e2;
 pub mod request_e3;

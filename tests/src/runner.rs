@@ -10,49 +10,18 @@
 use difftest::document::{script_of, Claim};
 use difftest::draw::Draw;
 use difftest::generate::script;
+use difftest::options::Options;
 use difftest::play::{compare, first_difference, shrink, Difference, Program};
 use difftest::tally::Tally;
 use difftest::{document, request_e2, request_e3, sweep};
 use std::process::ExitCode;
-use std::time::{Instant, SystemTime, UNIX_EPOCH};
+use std::time::Instant;
 
 /// Scripts that one run of the program plays, one after the other: each starts with an opening.
 const SCRIPTS_IN_A_RUN: usize = 100;
 
 /// A run of so many calls must lack nothing.
 const LONG_RUN: u64 = 20_000;
-
-struct Options {
-    seed: u64,
-    calls: u64,
-    program: Program,
-}
-
-fn usage() -> ! {
-    eprintln!("runner [--seed N] [--calls N] COMMAND [WORDS..]");
-    std::process::exit(2)
-}
-
-fn number_after(args: &mut Vec<String>) -> u64 {
-    args.drain(..2).nth(1).and_then(|word| word.parse().ok()).unwrap_or_else(|| usage())
-}
-
-fn options() -> Options {
-    let mut args: Vec<String> = std::env::args().skip(1).collect();
-    let clock = SystemTime::now().duration_since(UNIX_EPOCH).map_or(0, |d| d.as_nanos() as u64);
-    let (mut seed, mut calls) = (clock, LONG_RUN);
-    while args.len() > 1 && args[0].starts_with("--") {
-        match args[0].as_str() {
-            "--seed" => seed = number_after(&mut args),
-            "--calls" => calls = number_after(&mut args),
-            _ => usage(),
-        }
-    }
-    if args.is_empty() {
-        usage();
-    }
-    Options { seed, calls, program: Program { command: args } }
-}
 
 fn report(lines: &[String], difference: &Difference) {
     println!("A difference, shown by these {} lines:", lines.len());
@@ -92,43 +61,43 @@ fn run_agrees(program: &Program, scripts: &[Vec<String>], tally: &mut Tally) -> 
 }
 
 /// The sweeps and random scripts agree with the model, until enough calls of random scripts were compared.
-fn scripts_agree(options: &Options, tally: &mut Tally) -> bool {
-    let mut draw = Draw::new(options.seed);
-    let mut agree = run_agrees(&options.program, &sweep::scripts(), tally);
+fn scripts_agree(program: &Program, seed: u64, calls: u64, tally: &mut Tally) -> bool {
+    let mut draw = Draw::new(seed);
+    let mut agree = run_agrees(program, &sweep::scripts(), tally);
     let swept = tally.calls();
-    while agree && tally.calls() < swept + options.calls {
+    while agree && tally.calls() < swept + calls {
         let scripts: Vec<Vec<String>> = (0..SCRIPTS_IN_A_RUN).map(|_| script(&mut draw)).collect();
-        agree = run_agrees(&options.program, &scripts, tally);
+        agree = run_agrees(program, &scripts, tally);
     }
     agree
 }
 
 /// A long run lacked nothing; else what it lacked is printed.
-fn lacks_nothing(options: &Options, tally: &Tally) -> bool {
+fn lacks_nothing(seed: u64, calls: u64, tally: &Tally) -> bool {
     let missing = tally.missing();
-    if options.calls < LONG_RUN || missing.is_empty() {
+    if calls < LONG_RUN || missing.is_empty() {
         return true;
     }
-    println!("NEVER SEEN (seed {}): {}", options.seed, missing.join("; "));
+    println!("NEVER SEEN (seed {seed}): {}", missing.join("; "));
     false
 }
 
 fn main() -> ExitCode {
-    let options = options();
-    println!("seed {}", options.seed);
-    let began = Instant::now();
+    let Options { seed, calls, command } = Options::of_the_command("runner", LONG_RUN);
+    println!("seed {seed}");
+    let (began, program) = (Instant::now(), Program { command });
     let mut tally = Tally::default();
     let papers = [("document 01", document::CLAIMS), ("request E2", request_e2::CLAIMS), ("request E3", request_e3::CLAIMS)];
-    let hold = papers.iter().all(|(paper, claims)| claims_hold(&options.program, paper, claims));
-    let agree = hold && scripts_agree(&options, &mut tally);
+    let hold = papers.iter().all(|(paper, claims)| claims_hold(&program, paper, claims));
+    let agree = hold && scripts_agree(&program, seed, calls, &mut tally);
     println!("{}", tally.lines().join("\n"));
     let Tally { answers, words, summaries, wrong_lines, .. } = tally;
     println!("{} calls and {wrong_lines} wrong lines: {answers} answers, {words} words and {summaries} summaries compared", tally.calls());
     println!("in {:.1} s", began.elapsed().as_secs_f64());
     if !agree {
-        println!("NOT the same (seed {})", options.seed);
+        println!("NOT the same (seed {seed})");
         return ExitCode::FAILURE;
     }
     println!("no difference");
-    if lacks_nothing(&options, &tally) { ExitCode::SUCCESS } else { ExitCode::FAILURE }
+    if lacks_nothing(seed, calls, &tally) { ExitCode::SUCCESS } else { ExitCode::FAILURE }
 }

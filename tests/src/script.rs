@@ -76,7 +76,7 @@ fn at_most(most: u64, number: u64) -> Result<usize, Wrong> {
 }
 
 fn bytes_of_hex(hex: &str) -> Result<Vec<u8>, Wrong> {
-    if hex.len() % 2 != 0 || !hex.bytes().all(|b| b.is_ascii_hexdigit()) {
+    if !hex.len().is_multiple_of(2) || !hex.bytes().all(|b| b.is_ascii_hexdigit()) {
         return Err(NOT_HEX);
     }
     Ok((0..hex.len()).step_by(2).map(|i| u8::from_str_radix(&hex[i..i + 2], 16).expect("two hex digits")).collect())

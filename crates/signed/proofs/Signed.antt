@@ -3,6 +3,7 @@
 --   signed      every statement of specs/Signed.antt
 --
 -- Assumes nothing.
+use Rattle.area_promises.proofs.Areas.{area-bytes, area-calls, area-refused, area-done, area-runs, area-any-order, one-area}
 use Rattle.demands.proofs.AnyOrder.{any-order, two-orders}
 use Rattle.demands.proofs.Edits.{edits, new-bytes}
 use Rattle.demands.proofs.Exactly.{exactly}
@@ -60,4 +61,11 @@ signed =
       any-order-with = any-order-with;
       two-orders-with = two-orders-with;
       one-result-with = one-result-with;
+      area-bytes = area-bytes;
+      area-calls = area-calls;
+      area-refused = area-refused;
+      area-done = area-done;
+      area-runs = area-runs;
+      area-any-order = area-any-order;
+      one-area = one-area;
     }

@@ -3,9 +3,11 @@
 --
 -- The statements: those on the calls in demands/specs/Demands.antt, those on the calls with a summary in demands_with/specs/Summaries.antt, those on
 -- tables in table/specs/Theorems.antt, on what a summary is in totals/specs/Described.antt, document 01's rules read literally in
--- literal/specs/Statements.antt, those on the message in message_promises/specs/Promises.antt.
+-- literal/specs/Statements.antt, those on the message in message_promises/specs/Promises.antt, those on the calls over an area of bytes in
+-- area_promises/specs/Areas.antt.
 --
 -- Assumes nothing.
+use Rattle.area_promises.specs.Areas.{AreaBytes, AreaCalls, AreaRefused, AreaDone, AreaRuns, AreaAnyOrder, OneArea}
 use Rattle.demands.specs.Demands.{Refusals, Keeps, Edits, NewBytes, Placing, OneOfFive, Exactly, Listings, Runs, AnyOrder, TwoOrders, TheRun, OneResult}
 use Rattle.demands_with.specs.Summaries.{Tied, RefusalsWith, ExactlyWith, KeepsWith, RunsWith, AnyOrderWith, TwoOrdersWith, OneResultWith}
 use Rattle.literal.specs.Statements.{Allocating, Releasing, Extending, Shortening}
@@ -57,3 +59,11 @@ pub record Signed : Type 0 where
   pub any-order-with : AnyOrderWith
   pub two-orders-with : TwoOrdersWith
   pub one-result-with : OneResultWith
+  -- over an area of bytes, as a program in C keeps it, each call is the same call, and so is each run; an area's bytes are its state and table
+  pub area-bytes : AreaBytes
+  pub area-calls : AreaCalls
+  pub area-refused : AreaRefused
+  pub area-done : AreaDone
+  pub area-runs : AreaRuns
+  pub area-any-order : AreaAnyOrder
+  pub one-area : OneArea

@@ -1,0 +1,2 @@
+-- What is proved of the calls over an area.
+pub mod Areas
