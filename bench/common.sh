@@ -15,18 +15,23 @@ ours=${BENCH:-$here/../target/bin/bench}
 plain=$made/space_c
 TIMEFORMAT=%U
 
-must_be_there() { # FILE
-    [ -f "$1" ] || { echo "bench/$(basename "$0"): there is no $1: build it by 'rt check bench'" >&2; exit 2; }
+must_be_there() { # FILE COMMAND
+    [ -f "$1" ] || { echo "bench/$(basename "$0"): there is no $1: build it by '$2'" >&2; exit 2; }
 }
-must_be_there "$ours"
+must_be_there "$ours" 'rt check bench'
 
 # The plain C version, and what counts instructions if that is asked for.
 compile() {
     mkdir -p "$made"
-    "$own/toolchain/bin/clang" --target=x86_64-unknown-linux-gnu -march=x86-64 -std=c11 -O2 -Wall -Wextra -Werror -ffreestanding -fPIE \
-        -c "$here/space.c" -o "$plain.o"
-    link_program "$plain" "$plain.o"
+    compile_c space
     if $counting; then compile_counter; fi
+}
+
+# A program of this folder, NAME_c of NAME.c and libraries.
+compile_c() { # NAME LIBRARIES..
+    "$own/toolchain/bin/clang" --target=x86_64-unknown-linux-gnu -march=x86-64 -std=c11 -O2 -Wall -Wextra -Werror -ffreestanding -fPIE \
+        -I "$here/headers" -c "$here/$1.c" -o "$made/$1_c.o"
+    link_program "$made/$1_c" "$made/$1_c.o" "${@:2}"
 }
 
 link_program() { # PROGRAM OBJECTS..
@@ -46,10 +51,11 @@ seconds() { # PROGRAM ASKED
     { time "$here/../tests/as_rt_runs" "$1" >"$made/said" <<<"$2"; } 2>&1
 }
 
-# Instructions of one run, its loader's among them, with what it wrote there too.
+# Instructions of one run, its loader's among them, with what it wrote there too. The C library's `memset` and `memcpy` are to go without `rep`,
+# whose every step would count as one.
 instructions() { # PROGRAM ASKED
-    qemu-x86_64 -plugin "$made/count.so" "$own/toolchain/lib/ld-linux-x86-64.so.2" --library-path "$own/toolchain/lib" "$1" \
-        2>&1 >"$made/said" <<<"$2"
+    qemu-x86_64 -E GLIBC_TUNABLES=glibc.cpu.x86_rep_stosb_threshold=1000000000:glibc.cpu.x86_rep_movsb_threshold=1000000000 \
+        -plugin "$made/count.so" "$own/toolchain/lib/ld-linux-x86-64.so.2" --library-path "$own/toolchain/lib" "$1" 2>&1 >"$made/said" <<<"$2"
 }
 
 # Of several runs each must have written what the first one did, which is kept in the file `first`.

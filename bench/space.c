@@ -9,53 +9,21 @@
 //   space_allocate, space_release      the calls, on a struct and a lent table
 //   space_extend, space_shorten        two more, which came later; nothing above them has changed since but what a wrong name is told
 //
-// It uses the C library for `read` and `write` alone, and no header, since the kit's compiler has none. Not here: listing, which the workload
-// has not.
-typedef __UINT64_TYPE__ uint64_t;
-typedef __SIZE_TYPE__ size_t;
-typedef _Bool bool;
-enum { false, true };
-#define UINT64_MAX __UINT64_MAX__
+// Not here: the workload itself (workload.h), and listing, which it has not.
+#include "workload.h"
 
-long read(int fd, void *to, size_t bytes);
-long write(int fd, const void *from, size_t bytes);
-
-enum { ENTRY_WORDS = 3, MOST_WORDS = 1024 * ENTRY_WORDS, LEAST_WORDS = 4 * ENTRY_WORDS };
-enum { METADATA = 1, RAW = 2 };
-enum { LIVE_LARGE = 3, FREE_METADATA = 4, FREE_RAW = 5, FREE_LARGE = 6, TO_FREE = 3 };
+enum { LEAST_WORDS = 4 * ENTRY_WORDS };
+enum { FREE_METADATA = 4, FREE_RAW = 5, FREE_LARGE = 6, TO_FREE = 3 };
 enum { NOT_SOUND = 2, UNKNOWN_TYPE = 3, NO_BYTES = 4, BEYOND_LIMIT = 5, TABLE_FULL = 6, NO_ROOM_BEHIND = 8, TOO_LITTLE_LEFT = 9 };
-enum { BEYOND_END = 13, IN_FREE = 14, INSIDE_LIVE = 15, OTHER_SIZE = 16, LARGEST_REFUSAL = OTHER_SIZE };
+enum { BEYOND_END = 13, IN_FREE = 14, INSIDE_LIVE = 15, OTHER_SIZE = LARGEST_REFUSAL };
 
-static const uint64_t LEAST_PAGE = 512, LARGEST_PAGE = 1u << 30, LARGEST_LIMIT = (uint64_t)1 << 62;
-
-struct space {
-    uint64_t page, limit, end, count;
-};
-
-struct entry {
-    uint64_t address, size, kind;
-};
-
-// A refusal's number, 0 on success.
-struct placed {
-    int refusal;
-    uint64_t address;
-};
-
-static struct entry entry_at(const uint64_t *table, size_t i) {
-    const uint64_t *w = table + i * ENTRY_WORDS;
-    return (struct entry){w[0], w[1], w[2]};
-}
+static const uint64_t LEAST_PAGE = 512, LARGEST_PAGE = 1u << 30;
 
 static void put(uint64_t *table, size_t i, struct entry e) {
     uint64_t *w = table + i * ENTRY_WORDS;
     w[0] = e.address;
     w[1] = e.size;
     w[2] = e.kind;
-}
-
-static bool is_live(uint64_t kind) {
-    return kind <= LIVE_LARGE;
 }
 
 static uint64_t round_up(uint64_t page, uint64_t a) {
@@ -356,86 +324,6 @@ int space_shorten(struct space *s, uint64_t *table, size_t words, uint64_t addre
     return resize(s, table, words, i, to, e, rest - cut, s->end - cut);
 }
 
-// The workload, as in crates/bench/src/main.rt.
-
-static const uint64_t PAGE = 4096, LARGEST_SMALL = 1024, LARGEST_CHANGE = 64, FIRST_DRAW = 88172645463325252u;
-
-struct run {
-    struct space space;
-    uint64_t draw, sum, accepted, entries;
-};
-
-static uint64_t drawn(uint64_t x) {
-    x ^= x << 13;
-    x ^= x >> 7;
-    return x ^ (x << 17);
-}
-
-static void note(struct run *run, uint64_t answer) {
-    run->accepted += answer < UINT64_MAX - LARGEST_REFUSAL;
-    run->sum = drawn(run->sum + answer);
-    run->sum = drawn(run->sum + run->space.end);
-    run->sum = drawn(run->sum + run->space.count);
-    run->entries += run->space.count;
-}
-
-static void allocate(struct run *run, uint64_t *table, size_t words) {
-    uint64_t draw = run->draw = drawn(run->draw), bits = draw >> 8;
-    uint64_t size = (draw & 7) == 0 ? PAGE + bits % (3 * PAGE) : 1 + bits % LARGEST_SMALL;
-    struct placed placed = space_allocate(&run->space, table, words, (draw & 8) == 0 ? METADATA : RAW, size);
-    note(run, placed.refusal ? UINT64_MAX - placed.refusal : placed.address);
-}
-
-// The first live entry from i on, of n; n where there is none.
-static size_t live_from(const uint64_t *table, size_t i, size_t n) {
-    while (i < n && (entry_at(table, i).kind < 1 || !is_live(entry_at(table, i).kind)))
-        i++;
-    return i;
-}
-
-// A live entry, found from any entry on, or from the first; the count where there is none.
-static size_t any_live(const struct run *run, const uint64_t *table, uint64_t draw) {
-    size_t n = run->space.count;
-    if (n == 0)
-        return n;
-    size_t i = live_from(table, (draw >> 8) % n, n);
-    return i < n ? i : live_from(table, 0, n);
-}
-
-// Entry i, which was drawn, is released; nothing, where i is the count.
-static void release_drawn(struct run *run, uint64_t *table, size_t words, uint64_t draw, size_t i) {
-    if (i == run->space.count)
-        return;
-    struct entry e = entry_at(table, i);
-    run->draw = draw;
-    int refusal = space_release(&run->space, table, words, e.address, e.size);
-    note(run, refusal ? UINT64_MAX - refusal : 0);
-}
-
-static void release(struct run *run, uint64_t *table, size_t words) {
-    uint64_t draw = drawn(run->draw);
-    release_drawn(run, table, words, draw, any_live(run, table, draw));
-}
-
-static void shorten_and_extend(struct run *run, uint64_t *table, size_t words) {
-    uint64_t draw = drawn(run->draw), by = 1 + (draw >> 32) % LARGEST_CHANGE;
-    size_t i = any_live(run, table, draw);
-    if (i == run->space.count)
-        return;
-    struct entry e = entry_at(table, i);
-    run->draw = draw;
-    int refusal = space_shorten(&run->space, table, words, e.address, e.size, by);
-    note(run, refusal ? UINT64_MAX - refusal : 0);
-    refusal = space_extend(&run->space, table, words, e.address, e.size - by, by);
-    note(run, refusal ? UINT64_MAX - refusal : 0);
-}
-
-static void turn(struct run *run, uint64_t *table, size_t words) {
-    release(run, table, words);
-    allocate(run, table, words);
-    shorten_and_extend(run, table, words);
-}
-
 // Names in one part of the table, as in crates/bench/src/named.rt.
 
 enum { NAMES_DRAWN = 2, NAMES_FOUND, CALLS_BY_NAME };
@@ -472,51 +360,17 @@ static void turn_by_name(struct run *run, uint64_t *table, size_t words, uint64_
     allocate(run, table, words);
 }
 
-static struct run worked(uint64_t *table, size_t words, uint64_t entries, uint64_t turns, uint64_t way, uint64_t part) {
-    struct run run = {{PAGE, LARGEST_LIMIT, 0, 0}, FIRST_DRAW, 0, 0, 0};
-    for (uint64_t i = 0; i < entries; i++)
-        if (run.space.count < entries)
-            allocate(&run, table, words);
-    run.accepted = run.entries = 0;
-    for (uint64_t i = 0; i < turns; i++)
-        if (way == NAMES_DRAWN || way == NAMES_FOUND)
-            name(&run, table, part, way == NAMES_FOUND);
-        else if (way == CALLS_BY_NAME)
-            turn_by_name(&run, table, words, part);
-        else
-            turn(&run, table, words);
-    return run;
-}
-
-static void say(const char *name, uint64_t n) {
-    char text[64];
-    size_t length = 0, at = sizeof text;
-    text[--at] = '\n';
-    do
-        text[--at] = '0' + n % 10;
-    while ((n /= 10) > 0);
-    while (name[length] != 0)
-        length++;
-    write(1, name, length);
-    write(1, text + at, sizeof text - at);
-}
-
 int main(void) {
     static uint64_t table[MOST_WORDS];
-    char text[64];
-    uint64_t asked[5] = {0, 0, 0, 0, 0};
-    long got = read(0, text, sizeof text);
-    for (long i = 0, which = 0; i < got; i++) {
-        if (text[i] == ' ')
-            which++;
-        else if (which < 5 && text[i] >= '0' && text[i] <= '9')
-            asked[which] = asked[which] * 10 + (text[i] - '0');
-    }
-    size_t words = asked[1] < MOST_WORDS / ENTRY_WORDS ? asked[1] * ENTRY_WORDS : MOST_WORDS;
-    struct run run = worked(table, words, asked[0], asked[2], asked[3], asked[4]);
-    say("checksum ", run.sum);
-    say("accepted ", run.accepted);
-    say("entries in all ", run.entries);
-    say("end ", run.space.end);
+    struct wish wish = asked();
+    struct run run = filled((struct space){PAGE, LARGEST_LIMIT, 0, 0}, table, wish);
+    for (uint64_t i = 0; i < wish.turns; i++)
+        if (wish.way == NAMES_DRAWN || wish.way == NAMES_FOUND)
+            name(&run, table, wish.part, wish.way == NAMES_FOUND);
+        else if (wish.way == CALLS_BY_NAME)
+            turn_by_name(&run, table, wish.words, wish.part);
+        else
+            turn(&run, table, wish.words);
+    say_run(&run);
     return 0;
 }

@@ -8,8 +8,8 @@
 //   3    the same, and the name is found
 //   4    a turn releases a live piece in the part, and allocates another one
 //
-// The parts: 0 the front of the table, 1 its middle, 2 its end. bench/space.c is the same workload through a plain C version, and must write the
-// same.
+// The parts: 0 the front of the table, 1 its middle, 2 its end. bench/workload.h is the same workload in C, through a plain C version (bench/space.c)
+// and over an area of bytes (bench/area.c), and must write the same.
 mod named;
 mod with;
 
