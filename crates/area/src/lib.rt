@@ -1,13 +1,12 @@
 // The calls for a program in C (include/filespace.h), over one area of bytes that it keeps: the state, and behind it the table. The answer is the
 // number of document 01 and the requests, 0 for done. A refused call writes no byte.
 //
-// Each exported call looks at the lengths, and lends a local table to a function that reads state and words out of the area, tests them, decides
-// (`space`), and only then writes: the state, and the entries from the first that the change replaces up to the last one.
-mod calls;
-
+// Each exported call looks at the lengths, and lends a local table to its twin in `area_calls`, which reads state and words out of the area, tests them, decides
+// (`space`), and only then writes: the state, and the entries from the first that the change replaces up to the last one. An opening reads nothing, and
+// writes all.
 ghost use mathlib.Core.Path.{_≡_};
 ghost use lib.ListN.{length};
-ghost use Rattle.area.specs.Calls.{areaSaid, bothSaid, openedIn, allocatedIn, releasedIn, resizedIn, extendedIn, shortenedIn};
+ghost use Rattle.area_calls.specs.Calls.{areaSaid, bothSaid, openedIn, allocatedIn, releasedIn, resizedIn, extendedIn, shortenedIn};
 ghost use Rattle.pieces.specs.Words.{entryWords};
 ghost use Rattle.table.specs.Sound.{largestCapacity};
 ghost use Prim.Native.Nat.{_*_};
@@ -40,7 +39,7 @@ pub extern "C" fn filespace_open(page: u64, limit: u64, area: &mut [u8]) -> u64
     }
     let mut words = zero_words();
     let k = table_words(n);
-    calls::open(page, limit, area, &mut words[..k])
+    area_calls::open(page, limit, area, &mut words[..k])
 }
 
 // The address goes to the first 8 bytes of the result.
@@ -62,7 +61,7 @@ pub extern "C" fn filespace_allocate(
     }
     let mut words = zero_words();
     let k = table_words(n);
-    calls::allocate(area, &mut words[..k], code, size, result)
+    area_calls::allocate(area, &mut words[..k], code, size, result)
 }
 
 #[no_mangle]
@@ -75,7 +74,7 @@ pub extern "C" fn filespace_release(area: &mut [u8], address: u64, size: u64) ->
     }
     let mut words = zero_words();
     let k = table_words(n);
-    calls::release(area, &mut words[..k], address, size)
+    area_calls::release(area, &mut words[..k], address, size)
 }
 
 #[no_mangle]
@@ -101,5 +100,5 @@ fn resize(area: &mut [u8], address: u64, size: u64, way: Way, by: u64) -> u64
     }
     let mut words = zero_words();
     let k = table_words(n);
-    calls::resize(area, &mut words[..k], address, size, way, by)
+    area_calls::resize(area, &mut words[..k], address, size, way, by)
 }

@@ -30,7 +30,7 @@ use Rattle.table.specs.Sound.{leastCapacity, largestCapacity}
 
 -- ---- lengths
 
--- the two tests of a length by themselves
+-- the three tests of a length by themselves
 area-parts : (len : ℕ) → areaLengthb len ≡ true → (tableAt ≤ len) × (((len - tableAt) % wordBytes ≡ 0) × (tableLengthb (tableWords len) ≡ true))
 unfolding areaLengthb
 area-parts len e =

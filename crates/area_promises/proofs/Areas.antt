@@ -15,7 +15,7 @@ use lib.Seq.{take-at, drop-at}
 use borrow.Author.Tests.{eq-eqb, ne-eqb, eqb-true, lt-ltb, le-ltb, ltb-false}
 use Rattle.area_bytes.proofs.AreaLaws.{area-lengths, area-fits, length-area, area-read, area-written}
 use Rattle.area_bytes.specs.Area.{AreaLength, areaLengthb, tableAt, tableWords, stateIn, wordsIn, areaOf}
-use Rattle.area.specs.Calls.{Left, LeftBoth, leftBy, areaSaid, bothSaid, inArea, openedIn, allocatedIn, withAddress}
+use Rattle.area_calls.specs.Calls.{Left, LeftBoth, leftBy, areaSaid, bothSaid, inArea, openedIn, allocatedIn, withAddress}
 use Rattle.area_promises.specs.Areas.{wrongLength, calledIn, RanIn, ranIn, AreaBytes, AreaCalls, AreaRefused, AreaDone, RunsAlike, AreaRuns}
 use Rattle.area_promises.specs.Areas.{AreaAnyOrder, OneArea}
 use Rattle.area_promises.proofs.WordLaws.{sound-words, bytes-area}

@@ -22,7 +22,7 @@ use mathlib.Core.List.{List, [], _∷_, List·Memᴰ, List·Permᴰ}
 use mathlib.Core.Path.{_≡_}
 use lib.ListN.{length, take, drop, replicate}
 use Rattle.area_bytes.specs.Area.{AreaLength, stateIn, wordsIn, AreaLengths, AreaRead, AreaWritten}
-use Rattle.area.specs.Calls.{Left, LeftBoth, areaSaid, bothSaid, inArea, openedIn, allocatedIn, releasedIn, extendedIn, shortenedIn}
+use Rattle.area_calls.specs.Calls.{Left, LeftBoth, areaSaid, bothSaid, inArea, openedIn, allocatedIn, releasedIn, extendedIn, shortenedIn}
 use Rattle.demands.specs.Calls.{Call, opens, allocates, releases, extends, shortens, called, OnSpace, ran, releasesOf}
 use Rattle.demands.specs.Demands.{Releasable}
 use Rattle.little.specs.Little.{wordBytes, bytesOf, Bytes}

@@ -1,7 +1,8 @@
 -- `area::filespace_allocate` meets its contract: it is refused where the result is too short, and then where the length is no area's, and else
--- `calls::allocate` on a table of the area's length. Assumes nothing.
+-- `area_calls::allocate` on a table of the area's length. Assumes nothing.
 use native.Mathlib.Omega.{arith}
-use Rattle.area.proofs.CallLaws.{left-other, result-short, result-refused, head-within, lent-within, lent-long, lent}
+use Rattle.area_calls.proofs.CallLaws.{left-other, result-short, result-refused}
+use Rattle.area.proofs.LentLaws.{head-within, lent-within, lent-long, lent}
 use Rattle.pages.proofs.Numbers.{fails}
 use Rattle.refusals.specs.AnswerNumbers.{notSound}
 use borrow.Author.Needs.{needs}

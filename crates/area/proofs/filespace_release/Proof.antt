@@ -1,6 +1,7 @@
--- `area::filespace_release` meets its contract: it is refused where the length is no area's, and else `calls::release` on a table of the area's length.
+-- `area::filespace_release` meets its contract: it is refused where the length is no area's, and else `area_calls::release` on a table of the area's length.
 -- Assumes nothing.
-use Rattle.area.proofs.CallLaws.{left-other, head-within, lent-within, lent-long, lent}
+use Rattle.area_calls.proofs.CallLaws.{left-other}
+use Rattle.area.proofs.LentLaws.{head-within, lent-within, lent-long, lent}
 use Rattle.pages.proofs.Numbers.{fails}
 use Rattle.refusals.specs.AnswerNumbers.{notSound}
 use borrow.Author.Needs.{needs}

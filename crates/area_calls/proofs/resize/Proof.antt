@@ -1,9 +1,9 @@
--- `area::calls::resize` meets its contract: what is read out of the area is refused 2 where it is not sound, and else what was decided is written, or told.
+-- `area_calls::resize` meets its contract: what is read out of the area is refused 2 where it is not sound, and else what was decided is written, or told.
 -- Assumes nothing.
 use Prim.Native.Nat.{ℕ}
 use mathlib.Core.List.{List}
 use mathlib.Core.Path.{subst}
-use Rattle.area.proofs.CallLaws.{held, call-unsound, call-done, call-refused}
+use Rattle.area_calls.proofs.CallLaws.{held, call-unsound, call-done, call-refused}
 use Rattle.pages.proofs.Numbers.{fails}
 use Rattle.space.proofs.GiveLaws.{resized-unsound}
 use Rattle.space.proofs.OutcomeLaws.{tested}
@@ -11,8 +11,8 @@ use Rattle.space.specs.Giving.{resized}
 use Rattle.space.specs.Halves.{ResizeLeads}
 use Rattle.space.specs.declared.Space.{Space}
 use borrow.Author.Needs.{needs}
-use Rattle.area.proofs.calls.resize.Statement.{statement}
-use Rattle.area.proofs.calls.resize.Tie as tie
+use Rattle.area_calls.proofs.resize.Statement.{statement}
+use Rattle.area_calls.proofs.resize.Tie as tie
 
 read-requires : tie.Need-read-requires
 read-requires c κs = search needs

@@ -1,14 +1,14 @@
--- `area::calls::carry_out` meets its contract: what it does not write, the change leaves as it was. Assumes nothing.
+-- `area_calls::carry_out` meets its contract: what it does not write, the change leaves as it was. Assumes nothing.
 use Prim.Native.Nat.{_≤_}
 use mathlib.Core.Path.{_≡_, ap, _∙_}
 use native.Mathlib.Omega.{arith}
 use lib.ListN.{length}
 use Rattle.area_bytes.proofs.AreaLaws.{length-area}
 use Rattle.area_bytes.specs.Area.{areaOf, AreaFits}
-use Rattle.area.proofs.CallLaws.{carry-most, carry-first, carry-written}
+use Rattle.area_calls.proofs.CallLaws.{carry-most, carry-first, carry-written}
 use borrow.Author.Needs.{needs}
-use Rattle.area.proofs.calls.carry_out.Statement.{statement}
-use Rattle.area.proofs.calls.carry_out.Tie as tie
+use Rattle.area_calls.proofs.carry_out.Statement.{statement}
+use Rattle.area_calls.proofs.carry_out.Tie as tie
 
 larger-requires : tie.Need-larger-requires
 larger-requires c κs = search needs

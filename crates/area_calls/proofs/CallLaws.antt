@@ -1,31 +1,29 @@
 -- Laws of the calls over an area, step by step as the code has them.
 --
---   carry-most, carry-written     a change that is carried out and written: how far it goes, and that the area is then that of what it leaves
+--   carry-first, carry-most, carry-written   a change that is carried out and written: from where and how far, and that the area is then that of
+--                                 what it leaves
 --   left-other, left-done, left-refused      what a call leaves: on bytes that are no area; done; refused
 --   held                          what was read out of an area, it holds
 --   call-unsound, call-done, call-refused    the same of a call on what was read
 --   open-done, open-refused       of an opening
 --   placed-carries, placed-refuses           what was decided on an allocation, by its case
 --   result-short, result-done, result-refused      what it leaves, with its result
---   head-within, lent-within, lent-long, lent      the table that an exported call lends
 --
 -- Assumes nothing.
 use Prim.Native.Nat.{ℕ, _+_, _*_, _≤_, _<_, max}
-use mathlib.Core.Bool.{Bool, true, false, not}
+use mathlib.Core.Bool.{Bool, true, false}
 use mathlib.Core.List.{List}
 use mathlib.Core.Path.{_≡_, refl, sym, ap, _∙_, subst}
 use native.Mathlib.Omega.{arith}
 use lib.Dec.{eqb}
 use lib.ListN.{length, take, drop}
-use lib.Seq.{length-take-le}
 use borrow.Author.Tests.{eq-eqb, ne-eqb, lt-ltb, le-ltb}
-use Rattle.area_bytes.proofs.AreaLaws.{area-fits, area-most, head-over, entries-over, area-read}
+use Rattle.area_bytes.proofs.AreaLaws.{head-over, entries-over, area-read}
 use Rattle.area_bytes.specs.Area.{tableAt, entryBytes, areaLengthb, tableWords, stateIn, wordsIn, headOf, areaOf}
-use Rattle.area.specs.Calls.{Left, leftBy, areaSaid, bothSaid, inArea, openedIn, withAddress, allocatedIn, Lent, Holds}
+use Rattle.area_calls.specs.Calls.{Left, leftBy, areaSaid, bothSaid, inArea, openedIn, withAddress, allocatedIn, Lent, Holds}
 use Rattle.change.specs.declared.plan.Plan.{Plan}
 use Rattle.little.proofs.LittleLaws.{length-numbers}
 use Rattle.little.specs.Little.{wordBytes, part, bytesOf, bytesOfAll, laid, Bytes}
-use Rattle.pages.proofs.Numbers.{passes}
 use Rattle.pieces.specs.Words.{entryWords}
 use Rattle.refusals.specs.AnswerNumbers.{outOfRange, notSound, sliceTooShort, openNumber, allocateNumber}
 use Rattle.refusals.specs.declared.AllocateAnswer.{AllocateAnswer}
@@ -42,7 +40,6 @@ use Rattle.space.specs.declared.place.AllocateDecision.{AllocateDecision}
 use Rattle.space.specs.declared.place.AllocateDecision.the-variants.{Change, Refused}
 use Rattle.table.proofs.Theorems.{count-fits}
 use Rattle.table.specs.Local.{rangesb}
-use Rattle.table.specs.Sound.{largestCapacity}
 
 -- ---- a change that is carried out
 
@@ -174,23 +171,3 @@ module _ (t s : ℕ) (b r : List ℕ) where
         let yes : eqb (l .refusal) 0 ≡ true = eq-eqb (l .refusal) 0 done in
         let same : record { left = l; result = c } ≡ withAddress (allocated (stateIn b) t s (wordsIn b) .address) r l = rw (yes, ← at, ← e) in
         same ∙ enough
-
--- ---- the table that is lent
-
--- of the local words ws the first n, as many as the area b has; r is what the test of b's length answered
-module _ (b ws : List ℕ) (room : largestCapacity * entryWords ≡ length ws) {r : Bool} (is : r ≡ areaLengthb (length b)) (passed : not r ≡ false) where
-  form : areaLengthb (length b) ≡ true
-  form = passes is passed
-
-  pub head-within : tableAt ≤ length b
-  head-within = area-fits (length b) form .0
-
-  module _ {n : ℕ} (many : n ≡ tableWords (length b)) where
-    pub lent-within : n ≤ length ws
-    lent-within = omega (arith, many, room, area-most (length b) form)
-
-    pub lent-long : n ≡ length (take n ws)
-    lent-long = sym (length-take-le n ws lent-within)
-
-    pub lent : Lent b (take n ws)
-    lent = record { area = form; fits = omega (arith, many, lent-long, area-fits (length b) form .1) }

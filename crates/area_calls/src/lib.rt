@@ -2,7 +2,7 @@
 ghost use mathlib.Core.Path.{_≡_};
 ghost use Prim.Native.Nat.{_≤_, max};
 ghost use lib.ListN.{length};
-ghost use Rattle.area.specs.Calls.{Lent, Holds, areaSaid, bothSaid, openedIn, allocatedIn, releasedIn, resizedIn, leftBy};
+ghost use Rattle.area_calls.specs.Calls.{Lent, Holds, areaSaid, bothSaid, openedIn, allocatedIn, releasedIn, resizedIn, leftBy};
 ghost use Rattle.little.specs.Little.{wordBytes};
 ghost use Rattle.settle.specs.Settle.{CarryFits};
 ghost use Rattle.space.specs.Halves.{carried};

@@ -1,8 +1,8 @@
--- `area::calls::open` meets its contract: what the opening of the lent table answers is written, or told. Assumes nothing.
-use Rattle.area.proofs.CallLaws.{open-done, open-refused}
+-- `area_calls::open` meets its contract: what the opening of the lent table answers is written, or told. Assumes nothing.
+use Rattle.area_calls.proofs.CallLaws.{open-done, open-refused}
 use borrow.Author.Needs.{needs}
-use Rattle.area.proofs.calls.open.Statement.{statement}
-use Rattle.area.proofs.calls.open.Tie as tie
+use Rattle.area_calls.proofs.open.Statement.{statement}
+use Rattle.area_calls.proofs.open.Tie as tie
 
 open-requires : tie.Need-open-requires
 open-requires c κs = search needs

@@ -1,18 +1,18 @@
--- `area::calls::allocate` meets its contract: what is read out of the area is refused 2 where it is not sound, and else what was decided is written, and
+-- `area_calls::allocate` meets its contract: what is read out of the area is refused 2 where it is not sound, and else what was decided is written, and
 -- then the address, or told. Assumes nothing.
 use Prim.Native.Nat.{ℕ}
 use mathlib.Core.List.{List}
 use mathlib.Core.Path.{refl, sym, ap, _∙_}
 use native.Mathlib.Omega.{arith}
-use Rattle.area.proofs.CallLaws.{held, call-unsound, call-done, call-refused, placed-carries, placed-refuses, result-done, result-refused}
+use Rattle.area_calls.proofs.CallLaws.{held, call-unsound, call-done, call-refused, placed-carries, placed-refuses, result-done, result-refused}
 use Rattle.pages.proofs.Numbers.{fails}
 use Rattle.space.proofs.OutcomeLaws.{tested}
 use Rattle.space.proofs.PlaceLaws.{allocated-unsound}
 use Rattle.space.specs.Placing.{Placed, allocated}
 use Rattle.space.specs.declared.Space.{Space}
 use borrow.Author.Needs.{needs}
-use Rattle.area.proofs.calls.allocate.Statement.{statement}
-use Rattle.area.proofs.calls.allocate.Tie as tie
+use Rattle.area_calls.proofs.allocate.Statement.{statement}
+use Rattle.area_calls.proofs.allocate.Tie as tie
 
 read-requires : tie.Need-read-requires
 read-requires c κs = search needs
