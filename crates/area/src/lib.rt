@@ -6,14 +6,19 @@
 // writes all.
 ghost use mathlib.Core.Path.{_≡_};
 ghost use lib.ListN.{length};
-ghost use Rattle.area_calls.specs.Calls.{areaSaid, bothSaid, openedIn, allocatedIn, releasedIn, resizedIn, extendedIn, shortenedIn};
+ghost use Rattle.area_calls.specs.Asking.{Tells};
+ghost use Rattle.area_calls.specs.Calls.{areaSaid, bothSaid, openedIn, allocatedIn, releasedIn, extendedIn, shortenedIn};
 ghost use Rattle.pieces.specs.Words.{entryWords};
 ghost use Rattle.table.specs.Sound.{largestCapacity};
 ghost use Prim.Native.Nat.{_*_};
 use area_bytes::is_area_length;
 use area_bytes::table_words;
+use area_calls::Asked;
+use area_calls::Told;
 use little::WORD_BYTES;
 use pieces::ENTRY_WORDS;
+use refusals::DONE;
+use refusals::NO_ADDRESS;
 use refusals::NOT_SOUND;
 use refusals::OUT_OF_RANGE;
 use refusals::SLICE_TOO_SHORT;
@@ -42,6 +47,22 @@ pub extern "C" fn filespace_open(page: u64, limit: u64, area: &mut [u8]) -> u64
     area_calls::open(page, limit, area, &mut words[..k])
 }
 
+// A call on the file in the area; bytes that are no area are refused as unsound.
+fn call(area: &mut [u8], asked: Asked) -> Told
+    ensures { λ r. ⌜ Tells asked (now (area .entry)) r (now (area .exit)) ⌝ }
+{
+    let n = area.len();
+    if !is_area_length(n) {
+        return Told {
+            number: NOT_SOUND,
+            address: NO_ADDRESS,
+        };
+    }
+    let mut words = zero_words();
+    let k = table_words(n);
+    area_calls::call(area, &mut words[..k], asked)
+}
+
 // The address goes to the first 8 bytes of the result.
 #[no_mangle]
 pub extern "C" fn filespace_allocate(
@@ -55,50 +76,33 @@ pub extern "C" fn filespace_allocate(
     if result.len() < WORD_BYTES {
         return SLICE_TOO_SHORT;
     }
-    let n = area.len();
-    if !is_area_length(n) {
-        return NOT_SOUND;
+    let told = call(area, Asked::Allocate(code, size));
+    if told.number == DONE {
+        little::put_part(told.address, result, 0, WORD_BYTES);
     }
-    let mut words = zero_words();
-    let k = table_words(n);
-    area_calls::allocate(area, &mut words[..k], code, size, result)
+    told.number
 }
 
 #[no_mangle]
 pub extern "C" fn filespace_release(area: &mut [u8], address: u64, size: u64) -> u64
     ensures { λ r. ⌜ areaSaid r (now (area .exit)) ≡ releasedIn address size (now (area .entry)) ⌝ }
 {
-    let n = area.len();
-    if !is_area_length(n) {
-        return NOT_SOUND;
-    }
-    let mut words = zero_words();
-    let k = table_words(n);
-    area_calls::release(area, &mut words[..k], address, size)
+    let told = call(area, Asked::Release(address, size));
+    told.number
 }
 
 #[no_mangle]
 pub extern "C" fn filespace_extend(area: &mut [u8], address: u64, size: u64, by: u64) -> u64
     ensures { λ r. ⌜ areaSaid r (now (area .exit)) ≡ extendedIn address size by (now (area .entry)) ⌝ }
 {
-    resize(area, address, size, Way::Longer, by)
+    let told = call(area, Asked::Resize(address, size, Way::Longer, by));
+    told.number
 }
 
 #[no_mangle]
 pub extern "C" fn filespace_shorten(area: &mut [u8], address: u64, size: u64, by: u64) -> u64
     ensures { λ r. ⌜ areaSaid r (now (area .exit)) ≡ shortenedIn address size by (now (area .entry)) ⌝ }
 {
-    resize(area, address, size, Way::Shorter, by)
-}
-
-fn resize(area: &mut [u8], address: u64, size: u64, way: Way, by: u64) -> u64
-    ensures { λ r. ⌜ areaSaid r (now (area .exit)) ≡ resizedIn address size way by (now (area .entry)) ⌝ }
-{
-    let n = area.len();
-    if !is_area_length(n) {
-        return NOT_SOUND;
-    }
-    let mut words = zero_words();
-    let k = table_words(n);
-    area_calls::resize(area, &mut words[..k], address, size, way, by)
+    let told = call(area, Asked::Resize(address, size, Way::Shorter, by));
+    told.number
 }

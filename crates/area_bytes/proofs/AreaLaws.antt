@@ -8,8 +8,8 @@
 --
 -- Not here: laws of numbers in bytes (little/proofs/LittleLaws.antt). Assumes nothing.
 use Prim.Native.Nat.{ℕ, _+_, _-_, _*_, _/_, _%_, _≤_}
-use mathlib.Core.Bool.{Bool, true, _&&_}
-use mathlib.Core.List.{List, [], _∷_, _++_, append-nil, append-assoc}
+use mathlib.Core.Bool.{true}
+use mathlib.Core.List.{List, [], _++_, append-nil, append-assoc}
 use mathlib.Core.Path.{_≡_, refl, sym, ap, _∙_}
 use native.Mathlib.Omega.{arith}
 use lib.Dec.{leb, eqb}
@@ -17,11 +17,11 @@ use lib.ListN.{length, take, drop, getD, length-append, take-append-drop, drop-o
 use lib.Seq.{length-take-le, take-at, take-add, drop-at, drop-drop}
 use borrow.Rule.Slice.PartMut.{putMid}
 use borrow.Author.Tests.{leb-true, eqb-true, le-leb, eq-eqb}
-use Rattle.area_bytes.specs.Area.{pageAt, limitAt, endAt, countAt, tableAt, entryBytes, areaLength, AreaLength, tableWords, areaLengthb}
-use Rattle.area_bytes.specs.Area.{stateIn, wordsIn, stateWords, headOf, areaOf, Words, AreaFits, AreaLengths, AreaRead, AreaWritten}
+use Rattle.area_bytes.specs.Area.{pageAt, limitAt, endAt, countAt, tableAt, AreaLength, tableWords, areaLengthb}
+use Rattle.area_bytes.specs.Area.{stateIn, stateWords, headOf, areaOf, AreaLengths, AreaRead, AreaWritten}
 use Rattle.little.proofs.LittleLaws.{length-bytesOf, length-numbers, length-bytesOfAll, numbers-bytesOfAll, bytesOfAll-numbers, bytesOfAll-append}
 use Rattle.little.proofs.LittleLaws.{numbers-add, below-append, take-part, Laid, laid-none, laid-next, laid-back}
-use Rattle.little.specs.Little.{wordBytes, bytesOf, numbers, bytesOfAll, part, laid, Bytes, Below}
+use Rattle.little.specs.Little.{wordBytes, bytesOf, numbers, bytesOfAll, part, laid}
 use Rattle.pages.proofs.Numbers.{and-left, and-right, both}
 use Rattle.pieces.specs.Words.{entryWords}
 use Rattle.space.specs.declared.Space.{Space}

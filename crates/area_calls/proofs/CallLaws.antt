@@ -2,42 +2,50 @@
 --
 --   carry-first, carry-most, carry-written   a change that is carried out and written: from where and how far, and that the area is then that of
 --                                 what it leaves
---   left-other, left-done, left-refused      what a call leaves: on bytes that are no area; done; refused
+--   leads-change, leads-refused   what a decision leads to, by what was asked; no-address, a refused allocation has none
+--   in-other, in-done, in-refused            what a call leaves: on bytes that are no area; done; refused
 --   held                          what was read out of an area, it holds
---   call-unsound, call-done, call-refused    the same of a call on what was read
---   open-done, open-refused       of an opening
---   placed-carries, placed-refuses           what was decided on an allocation, by its case
---   result-short, result-done, result-refused      what it leaves, with its result
+--   told-done, told-refused, told-unsound    what a call is told, and leaves, of what was read; told-other, of bytes that are no area
+--   open-done, open-refused       what an opening leaves
+--   with-done, with-refused       the result of an allocation, by what it left of the area
+--   in-short, in-enough           what an allocation leaves, by the length of its result
+--   result-done, result-refused   the same, of what was told
 --
 -- Assumes nothing.
 use Prim.Native.Nat.{ℕ, _+_, _*_, _≤_, _<_, max}
 use mathlib.Core.Bool.{Bool, true, false}
 use mathlib.Core.List.{List}
-use mathlib.Core.Path.{_≡_, refl, sym, ap, _∙_, subst}
+use mathlib.Core.Path.{_≡_, refl, sym, ap, _∙_, subst⁻¹}
 use native.Mathlib.Omega.{arith}
 use lib.Dec.{eqb}
 use lib.ListN.{length, take, drop}
 use borrow.Author.Tests.{eq-eqb, ne-eqb, lt-ltb, le-ltb}
 use Rattle.area_bytes.proofs.AreaLaws.{head-over, entries-over, area-read}
 use Rattle.area_bytes.specs.Area.{tableAt, entryBytes, areaLengthb, tableWords, stateIn, wordsIn, headOf, areaOf}
+use Rattle.area_calls.specs.Asking.{meant, leftIn, addressIn, Leads, Tells}
 use Rattle.area_calls.specs.Calls.{Left, leftBy, areaSaid, bothSaid, inArea, openedIn, withAddress, allocatedIn, Lent, Holds}
+use Rattle.area_calls.specs.declared.Asked.{Asked}
+use Rattle.area_calls.specs.declared.Asked.the-variants.{Allocate, Release, Resize}
+use Rattle.area_calls.specs.declared.Decision.the-variants.{Change, Refused}
+use Rattle.area_calls.specs.declared.Told.{Told}
 use Rattle.change.specs.declared.plan.Plan.{Plan}
 use Rattle.little.proofs.LittleLaws.{length-numbers}
 use Rattle.little.specs.Little.{wordBytes, part, bytesOf, bytesOfAll, laid, Bytes}
 use Rattle.pieces.specs.Words.{entryWords}
-use Rattle.refusals.specs.AnswerNumbers.{outOfRange, notSound, sliceTooShort, openNumber, allocateNumber}
+use Rattle.refusals.specs.AnswerNumbers.{outOfRange, notSound, sliceTooShort, noAddress, openNumber, allocateNumber, addressOf}
 use Rattle.refusals.specs.declared.AllocateAnswer.{AllocateAnswer}
+use Rattle.refusals.specs.declared.AllocateAnswer.the-variants as answers
 use Rattle.settle.proofs.SettleLaws.{length-carried, carried-front, carried-back}
 use Rattle.settle.specs.Settle.{carriedOut, CarryFits}
-use Rattle.space.specs.Halves.{carrySaid, carried, Carries, Refuses, AllocateLeads}
+use Rattle.space.proofs.GiveLaws.{released-unsound, resized-unsound}
+use Rattle.space.proofs.PlaceLaws.{allocated-unsound}
+use Rattle.space.specs.Halves.{carrySaid, carried, Carries, Refuses}
 use Rattle.space.specs.Opening.{opened}
-use Rattle.space.specs.Outcomes.{Outcome, refused}
-use Rattle.space.specs.Placing.{Placed, allocated}
+use Rattle.space.specs.Outcomes.{soundb, Outcome, refused}
+use Rattle.space.specs.Placing.{Placed, unplaced, allocated}
 use Rattle.space.specs.Said.{openSaid}
 use Rattle.space.specs.declared.Space.{Space}
 use Rattle.space.specs.declared.answers.Opened.{Opened}
-use Rattle.space.specs.declared.place.AllocateDecision.{AllocateDecision}
-use Rattle.space.specs.declared.place.AllocateDecision.the-variants.{Change, Refused}
 use Rattle.table.proofs.Theorems.{count-fits}
 use Rattle.table.specs.Local.{rangesb}
 
@@ -72,47 +80,94 @@ module _ (sp : Space) (w : List ℕ) (plan : Plan) (f : CarryFits (sp .count) w 
       ∙ laid-over
       ∙ ap leftBy said
 
+-- ---- what is decided
+
+meant-unsound : (q : Asked) (sp : Space) (w : List ℕ) → soundb sp w ≡ false → meant q sp w ≡ unplaced (refused notSound sp w)
+meant-unsound (Allocate t s) sp w e = allocated-unsound sp t s w e
+meant-unsound (Release a z) sp w e = ap unplaced (released-unsound sp a z w e)
+meant-unsound (Resize a z way m) sp w e = ap unplaced (resized-unsound sp a z way m w e)
+
+-- q was asked, and is p
+module _ (sp : Space) (w : List ℕ) {q p : Asked} (is : q ≡ p) where
+  pub leads-change : {a : ℕ} {plan : Plan} → a ≡ meant p sp w .address → Carries sp w (meant p sp w .outcome) plan → Leads sp w (meant q sp w) (Change a plan)
+  leads-change {a} {plan} at c = subst⁻¹ (λ (x : Asked). Leads sp w (meant x sp w) (Change a plan)) is (at, c)
+
+  pub leads-refused : {n k : ℕ} → k ≡ n → noAddress ≡ meant p sp w .address → Refuses sp w (meant p sp w .outcome) n → Leads sp w (meant q sp w) (Refused k)
+  leads-refused {n} {k} e at c =
+      subst⁻¹ (λ (x : Asked). Leads sp w (meant x sp w) (Refused k)) is (at, subst⁻¹ (Refuses sp w (meant p sp w .outcome)) e c)
+
+pub no-address : (x : AllocateAnswer) → (allocateNumber x ≡ 0 → ⊥) → noAddress ≡ addressOf x
+no-address (answers.At a) n = absurd (n refl)
+no-address answers.NotSound n = refl
+no-address answers.UnknownType n = refl
+no-address answers.NoBytes n = refl
+no-address answers.BeyondLimit n = refl
+no-address answers.TableFull n = refl
+
 -- ---- what a call leaves
 
-module _ (k : ℕ) (b : List ℕ) where
-  pub left-other : (o : Outcome) → areaLengthb (length b) ≡ false → areaSaid k b ≡ inArea k b o
+module _ (k : ℕ) (b : List ℕ) (o : Outcome) where
+  pub in-other : areaLengthb (length b) ≡ false → inArea k b o ≡ areaSaid k b
   unfolding inArea
-  left-other o e = rw e
+  in-other e = rw e
 
-  -- r is what the call answered, and c the area then
-  module _ (form : areaLengthb (length b) ≡ true) (o : Outcome) {r : ℕ} (said : r ≡ o .refusal) where
-    pub left-done : {c : List ℕ} → r ≡ 0 → c ≡ leftBy o → areaSaid r c ≡ inArea k b o
+  module _ (form : areaLengthb (length b) ≡ true) where
+    pub in-done : o .refusal ≡ 0 → inArea k b o ≡ areaSaid (o .refusal) (leftBy o)
     unfolding inArea
-    left-done done e =
-        let t : eqb (o .refusal) 0 ≡ true = eq-eqb (o .refusal) 0 (sym said ∙ done) in
-        rw (form, t, ← e, ← said)
+    in-done e = let t : eqb (o .refusal) 0 ≡ true = eq-eqb (o .refusal) 0 e in rw (form, t)
 
-    pub left-refused : (r ≡ 0 → ⊥) → areaSaid r b ≡ inArea k b o
+    pub in-refused : (o .refusal ≡ 0 → ⊥) → inArea k b o ≡ areaSaid (o .refusal) b
     unfolding inArea
-    left-refused some =
-        let t : eqb (o .refusal) 0 ≡ false = ne-eqb (o .refusal) 0 (λ e. some (said ∙ e)) in
-        rw (form, t, ← said)
+    in-refused n = let t : eqb (o .refusal) 0 ≡ false = ne-eqb (o .refusal) 0 n in rw (form, t)
 
--- a call F on the state sp and the words w that were read out of the area b
+    -- r is what the call answered, and c the area then
+    module _ {r : ℕ} (said : r ≡ o .refusal) where
+      left-done : {c : List ℕ} → r ≡ 0 → c ≡ leftBy o → areaSaid r c ≡ inArea k b o
+      left-done done e = (λ i. areaSaid (said i) (e i)) ∙ sym (in-done (sym said ∙ done))
+
+      left-refused : (r ≡ 0 → ⊥) → areaSaid r b ≡ inArea k b o
+      left-refused some = ap (λ (n : ℕ). areaSaid n b) said ∙ sym (in-refused (λ e. some (said ∙ e)))
+
+-- what q is told, of the state sp and the words w that were read out of the area b
 module _ (b : List ℕ) (form : areaLengthb (length b) ≡ true) (sp : Space) (w : List ℕ) (state : sp ≡ stateIn b) (words : w ≡ wordsIn b) where
   pub held : Bytes b → Holds b sp w
   held h = sym ((λ i. areaOf (state i) (words i)) ∙ area-read b h form)
 
-  module _ (F : Space → List ℕ → Outcome) where
-    same : F sp w ≡ F (stateIn b) (wordsIn b)
-    same = λ i. F (state i) (words i)
+  module _ (q : Asked) where
+    same : meant q sp w ≡ meant q (stateIn b) (wordsIn b)
+    same = λ i. meant q (state i) (words i)
 
-    pub call-unsound : F sp w ≡ refused notSound sp w → areaSaid notSound b ≡ inArea notSound b (F (stateIn b) (wordsIn b))
-    call-unsound e = left-refused notSound b form (F sp w) (ap (λ (o : Outcome). o .refusal) (sym e)) (λ z. omega (arith, z)) ∙ ap (inArea notSound b) same
+    left-same : inArea notSound b (meant q sp w .outcome) ≡ leftIn q b
+    left-same = ap (λ (o : Placed). inArea notSound b (o .outcome)) same
 
-    pub call-done : {plan : Plan} {c : List ℕ} → Carries sp w (F sp w) plan → c ≡ leftBy (carried sp w plan)
-        → areaSaid 0 c ≡ inArea notSound b (F (stateIn b) (wordsIn b))
-    call-done d e =
-        left-done notSound b form (F sp w) (ap (λ (o : Outcome). o .refusal) (d .leads)) refl (e ∙ ap leftBy (d .leads)) ∙ ap (inArea notSound b) same
+    address-same : meant q sp w .address ≡ addressIn q b
+    address-same = rw form (ap (λ (o : Placed). o .address) same)
 
-    pub call-refused : {n r : ℕ} → Refuses sp w (F sp w) n → r ≡ n → areaSaid r b ≡ inArea notSound b (F (stateIn b) (wordsIn b))
-    call-refused d e =
-        left-refused notSound b form (F sp w) (e ∙ ap (λ (o : Outcome). o .refusal) (d .leads)) (λ z. d .some (sym e ∙ z)) ∙ ap (inArea notSound b) same
+    pub told-done : {a : ℕ} {plan : Plan} {c : List ℕ} → Leads sp w (meant q sp w) (Change a plan) → c ≡ leftBy (carried sp w plan)
+        → Tells q b (record { number = 0; address = a }) c
+    told-done d e =
+        let leads = d .1 .leads in
+        record {
+          left = left-done notSound b (meant q sp w .outcome) form (ap (λ (o : Outcome). o .refusal) leads) refl (e ∙ ap leftBy leads) ∙ left-same;
+          address = d .0 ∙ address-same;
+        }
+
+    pub told-refused : {k : ℕ} → Leads sp w (meant q sp w) (Refused k) → Tells q b (record { number = k; address = noAddress }) b
+    told-refused d =
+        record {
+          left = left-refused notSound b (meant q sp w .outcome) form (ap (λ (o : Outcome). o .refusal) (d .1 .leads)) (d .1 .some) ∙ left-same;
+          address = d .0 ∙ address-same;
+        }
+
+    pub told-unsound : soundb sp w ≡ false → Tells q b (record { number = notSound; address = noAddress }) b
+    told-unsound e =
+        let u = sym (meant-unsound q sp w e) in
+        let refuses : Refuses sp w (meant q sp w .outcome) notSound = record { leads = ap (λ (o : Placed). o .outcome) u; some = λ z. omega (arith, z) } in
+        told-refused (ap (λ (o : Placed). o .address) u, refuses)
+
+-- of bytes that are no area
+pub told-other : (q : Asked) (b : List ℕ) → areaLengthb (length b) ≡ false → Tells q b (record { number = notSound; address = noAddress }) b
+told-other q b e = record { left = sym (in-other notSound b _ e); address = rw e }
 
 -- ---- an opening
 
@@ -133,41 +188,52 @@ module _ (P M : ℕ) (b w v : List ℕ) (lent : Lent b w) (y : Opened) (said : o
       ap (inArea outOfRange b) said ∙ opened-same P M outOfRange b w (wordsIn b) n
 
   pub open-done : {c : List ℕ} → r ≡ 0 → c ≡ areaOf (y .space) v → areaSaid r c ≡ openedIn P M b
-  open-done done e = left-done outOfRange b (lent .area) (openSaid y v) number done e ∙ whole
+  open-done done e = left-done outOfRange b (openSaid y v) (lent .area) number done e ∙ whole
 
   pub open-refused : (r ≡ 0 → ⊥) → areaSaid r b ≡ openedIn P M b
-  open-refused some = left-refused outOfRange b (lent .area) (openSaid y v) number some ∙ whole
+  open-refused some = left-refused outOfRange b (openSaid y v) (lent .area) number some ∙ whole
 
 -- ---- an allocation
 
--- what was decided, by its case
-module _ (sp : Space) (w : List ℕ) (o : Placed) (r : AllocateDecision) (l : AllocateLeads sp w o r) where
-  pub placed-carries : {a : ℕ} {plan : Plan} → r ≡ Change a plan → (a ≡ o .address) × Carries sp w (o .outcome) plan
-  placed-carries e = subst (AllocateLeads sp w o) e l
+-- an accepted call is told its own address
+address-done : (q : Asked) (b : List ℕ) → leftIn q b .refusal ≡ 0 → addressIn q b ≡ meant q (stateIn b) (wordsIn b) .address
+address-done q b done = go (areaLengthb (length b)) refl
+  where
+    go : (t : Bool) → areaLengthb (length b) ≡ t → addressIn q b ≡ meant q (stateIn b) (wordsIn b) .address
+    go true e = rw e
+    go false e = absurd (omega (arith, sym (ap (λ (l : Left). l .refusal) (in-other notSound b _ e)) ∙ done))
 
-  pub placed-refuses : {answer : AllocateAnswer} → r ≡ Refused answer → Refuses sp w (o .outcome) (allocateNumber answer)
-  placed-refuses {answer} e = let d : AllocateLeads sp w o (Refused answer) = subst (AllocateLeads sp w o) e l in d .1
+-- the address a in the result r, of a call that left l
+module _ (a : ℕ) (r : List ℕ) (l : Left) where
+  pub with-done : l .refusal ≡ 0 → withAddress a r l ≡ record { left = l; result = laid 0 wordBytes (bytesOf wordBytes a) r }
+  with-done e = let t : eqb (l .refusal) 0 ≡ true = eq-eqb (l .refusal) 0 e in rw t
+
+  pub with-refused : (l .refusal ≡ 0 → ⊥) → withAddress a r l ≡ record { left = l; result = r }
+  with-refused n = let t : eqb (l .refusal) 0 ≡ false = ne-eqb (l .refusal) 0 n in rw t
 
 module _ (t s : ℕ) (b r : List ℕ) where
-  pub result-short : length r < wordBytes → bothSaid sliceTooShort b r ≡ allocatedIn t s b r
+  abbrev due : Placed
+  due = allocated (stateIn b) t s (wordsIn b)
+
+  pub in-short : length r < wordBytes → allocatedIn t s b r ≡ bothSaid sliceTooShort b r
   unfolding allocatedIn
-  result-short h = rw (lt-ltb (length r) wordBytes h)
+  in-short h = rw (lt-ltb (length r) wordBytes h)
 
-  -- l is what the call left of the area
-  module _ (long : wordBytes ≤ length r) {l : Left} (left : l ≡ inArea notSound b (allocated (stateIn b) t s (wordsIn b) .outcome)) where
-    enough : withAddress (allocated (stateIn b) t s (wordsIn b) .address) r l ≡ allocatedIn t s b r
-    unfolding allocatedIn
-    enough = rw (le-ltb (length r) wordBytes long, left)
+  pub in-enough : wordBytes ≤ length r → allocatedIn t s b r ≡ withAddress (due .address) r (inArea notSound b (due .outcome))
+  unfolding allocatedIn
+  in-enough h = rw (le-ltb (length r) wordBytes h)
 
-    pub result-refused : (l .refusal ≡ 0 → ⊥) → record { left = l; result = r } ≡ allocatedIn t s b r
-    result-refused some =
-        let no : eqb (l .refusal) 0 ≡ false = ne-eqb (l .refusal) 0 some in
-        let same : record { left = l; result = r } ≡ withAddress (allocated (stateIn b) t s (wordsIn b) .address) r l = rw no in
-        same ∙ enough
+  -- y is what was told, and c the area then
+  module _ (long : wordBytes ≤ length r) {y : Told} {c : List ℕ} (told : Tells (Allocate t s) b y c) where
+    both : withAddress (due .address) r (areaSaid (y .number) c) ≡ allocatedIn t s b r
+    both = ap (withAddress (due .address) r) (told .left) ∙ sym (in-enough long)
 
-    pub result-done : (c : List ℕ) (a : ℕ) → l .refusal ≡ 0 → a ≡ allocated (stateIn b) t s (wordsIn b) .address
-        → c ≡ laid 0 wordBytes (bytesOf wordBytes a) r → record { left = l; result = c } ≡ allocatedIn t s b r
-    result-done c a done at e =
-        let yes : eqb (l .refusal) 0 ≡ true = eq-eqb (l .refusal) 0 done in
-        let same : record { left = l; result = c } ≡ withAddress (allocated (stateIn b) t s (wordsIn b) .address) r l = rw (yes, ← at, ← e) in
-        same ∙ enough
+    pub result-refused : (y .number ≡ 0 → ⊥) → bothSaid (y .number) c r ≡ allocatedIn t s b r
+    result-refused some = sym (with-refused (due .address) r (areaSaid (y .number) c) some) ∙ both
+
+    pub result-done : {v : List ℕ} → y .number ≡ 0 → v ≡ laid 0 wordBytes (bytesOf wordBytes (y .address)) r → bothSaid (y .number) c v ≡ allocatedIn t s b r
+    result-done done e =
+        let at : y .address ≡ due .address = told .address ∙ address-done (Allocate t s) b (sym (ap (λ (l : Left). l .refusal) (told .left)) ∙ done) in
+        ap (bothSaid (y .number) c) (e ∙ ap (λ (a : ℕ). laid 0 wordBytes (bytesOf wordBytes a) r) at)
+        ∙ sym (with-done (due .address) r (areaSaid (y .number) c) done)
+        ∙ both

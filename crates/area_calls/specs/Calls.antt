@@ -5,8 +5,7 @@
 --   leftBy o              the bytes of the state and the words that the outcome o leaves
 --   inArea k b o          what o leaves in the area b: its bytes; of a refusal the bytes as they came. Where b has not the length of an area, the
 --                         refusal k
---   openedIn P M b, releasedIn a z b, resizedIn a z way m b      an opening, a release, an extend or a shorten; `extendedIn`, `shortenedIn`
---                         each by itself
+--   openedIn P M b, releasedIn a z b, extendedIn a z m b, shortenedIn a z k b     an opening, a release, an extend, a shorten
 --   allocatedIn t s b r   an allocation: 10 before anything else, where the result r has fewer than 8 bytes; the address goes to the first 8
 --
 --   areaSaid k b, bothSaid k b r   what a call answered and left
@@ -23,13 +22,11 @@ use lib.ListN.{length}
 use Rattle.area_bytes.specs.Area.{areaLengthb, stateIn, wordsIn, areaOf, AreaFits}
 use Rattle.little.specs.Little.{wordBytes, bytesOf, laid}
 use Rattle.refusals.specs.AnswerNumbers.{outOfRange, notSound, sliceTooShort}
-use Rattle.space.specs.Giving.{released, resized}
+use Rattle.space.specs.Giving.{released, extended, shortened}
 use Rattle.space.specs.Opening.{opened}
 use Rattle.space.specs.Outcomes.{Outcome}
 use Rattle.space.specs.Placing.{allocated}
 use Rattle.space.specs.declared.Space.{Space}
-use Rattle.space.specs.declared.give.Way.{Way}
-use Rattle.space.specs.declared.give.Way.the-variants.{Longer, Shorter}
 
 pub record Left : Type 0 where
   pub refusal : ℕ
@@ -61,14 +58,11 @@ openedIn P M b = inArea outOfRange b (opened P M (wordsIn b))
 abbrev pub releasedIn : ℕ → ℕ → List ℕ → Left
 releasedIn a z b = inArea notSound b (released (stateIn b) a z (wordsIn b))
 
-abbrev pub resizedIn : ℕ → ℕ → Way → ℕ → List ℕ → Left
-resizedIn a z way m b = inArea notSound b (resized (stateIn b) a z way m (wordsIn b))
-
 abbrev pub extendedIn : ℕ → ℕ → ℕ → List ℕ → Left
-extendedIn a z m b = resizedIn a z Longer m b
+extendedIn a z m b = inArea notSound b (extended (stateIn b) a z m (wordsIn b))
 
 abbrev pub shortenedIn : ℕ → ℕ → ℕ → List ℕ → Left
-shortenedIn a z m b = resizedIn a z Shorter m b
+shortenedIn a z k b = inArea notSound b (shortened (stateIn b) a z k (wordsIn b))
 
 -- the address a in the result r, of a call that left l
 abbrev pub withAddress : ℕ → List ℕ → Left → LeftBoth

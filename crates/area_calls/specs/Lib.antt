@@ -1,2 +1,3 @@
--- What the calls over an area mean, and what is proved of them.
+-- What the calls over an area mean.
 pub mod Calls
+pub mod Asking

@@ -1,14 +1,15 @@
-// The calls over an area of a known length, with a table for its words.
+// The calls over an area of a known length, with a table for its words. All but an opening are one: what is asked is read, tested and decided on,
+// and only then written.
 ghost use mathlib.Core.Path.{_≡_};
-ghost use Prim.Native.Nat.{_≤_, max};
-ghost use lib.ListN.{length};
-ghost use Rattle.area_calls.specs.Calls.{Lent, Holds, areaSaid, bothSaid, openedIn, allocatedIn, releasedIn, resizedIn, leftBy};
-ghost use Rattle.little.specs.Little.{wordBytes};
+ghost use Prim.Native.Nat.{max};
+ghost use Rattle.area_calls.specs.Asking.{meant, Leads, Tells};
+ghost use Rattle.area_calls.specs.Calls.{Lent, Holds, areaSaid, openedIn, leftBy};
 ghost use Rattle.settle.specs.Settle.{CarryFits};
 ghost use Rattle.space.specs.Halves.{carried};
+ghost use Rattle.space.specs.Outcomes.{SoundSpace};
 use change::plan::Plan;
-use little::WORD_BYTES;
 use refusals::DONE;
+use refusals::NO_ADDRESS;
 use refusals::NOT_SOUND;
 use refusals::allocate_number;
 use refusals::open_number;
@@ -55,54 +56,69 @@ fn carry_out(space: Space, table: &mut [u64], plan: Plan, area: &mut [u8])
     area_bytes::put_entries(table, plan.from, to, area);
 }
 
-pub fn allocate(area: &mut [u8], table: &mut [u64], code: u64, size: u64, result: &mut [u8]) -> u64
-    requires { ⌜ Lent (now area) (now table) × (wordBytes ≤ length (now result)) ⌝ }
-    ensures { λ r. ⌜ bothSaid r (now (area .exit)) (now (result .exit)) ≡ allocatedIn code size (now (area .entry)) (now (result .entry)) ⌝ }
+// What is asked of a file that was opened.
+pub enum Asked {
+    Allocate(u64, u64),
+    Release(u64, u64),
+    Resize(u64, u64, Way, u64),
+}
+
+// What is told: the number, and the address of a new piece, where there is one.
+pub struct Told {
+    pub number: u64,
+    pub address: u64,
+}
+
+// What is decided: the address that is to be told and the change, or the number of the refusal.
+pub enum Decision {
+    Change(u64, Plan),
+    Refused(u64),
+}
+
+fn decide(space: Space, table: &[u64], asked: Asked) -> Decision
+    requires { ⌜ SoundSpace space (now table) ⌝ }
+    ensures { λ r. ⌜ Leads space (now (table .entry)) (meant asked space (now (table .entry))) r ⌝ }
 {
-    let space = area_bytes::read(area, table);
-    if !space.is_sound(table) {
-        return NOT_SOUND;
-    }
-    match space.decide_allocate(table, code, size) {
-        AllocateDecision::Change(address, plan) => {
-            carry_out(space, table, plan, area);
-            little::put_part(address, result, 0, WORD_BYTES);
-            DONE
+    match asked {
+        Asked::Allocate(code, size) => match space.decide_allocate(table, code, size) {
+            AllocateDecision::Change(address, plan) => Decision::Change(address, plan),
+            AllocateDecision::Refused(answer) => Decision::Refused(allocate_number(answer)),
+        },
+        Asked::Release(address, size) => match space.decide_release(table, address, size) {
+            ReleaseDecision::Change(plan) => Decision::Change(NO_ADDRESS, plan),
+            ReleaseDecision::Refused(answer) => Decision::Refused(release_number(answer)),
+        },
+        Asked::Resize(address, size, way, by) => {
+            match space.decide_resize(table, address, size, way, by) {
+                ResizeDecision::Change(plan) => Decision::Change(NO_ADDRESS, plan),
+                ResizeDecision::Refused(answer) => Decision::Refused(resize_number(answer)),
+            }
         }
-        AllocateDecision::Refused(answer) => allocate_number(answer),
     }
 }
 
-pub fn release(area: &mut [u8], table: &mut [u64], address: u64, size: u64) -> u64
+pub fn call(area: &mut [u8], table: &mut [u64], asked: Asked) -> Told
     requires { ⌜ Lent (now area) (now table) ⌝ }
-    ensures { λ r. ⌜ areaSaid r (now (area .exit)) ≡ releasedIn address size (now (area .entry)) ⌝ }
+    ensures { λ r. ⌜ Tells asked (now (area .entry)) r (now (area .exit)) ⌝ }
 {
     let space = area_bytes::read(area, table);
     if !space.is_sound(table) {
-        return NOT_SOUND;
+        return Told {
+            number: NOT_SOUND,
+            address: NO_ADDRESS,
+        };
     }
-    match space.decide_release(table, address, size) {
-        ReleaseDecision::Change(plan) => {
+    match decide(space, table, asked) {
+        Decision::Change(address, plan) => {
             carry_out(space, table, plan, area);
-            DONE
+            Told {
+                number: DONE,
+                address,
+            }
         }
-        ReleaseDecision::Refused(answer) => release_number(answer),
-    }
-}
-
-pub fn resize(area: &mut [u8], table: &mut [u64], address: u64, size: u64, way: Way, by: u64) -> u64
-    requires { ⌜ Lent (now area) (now table) ⌝ }
-    ensures { λ r. ⌜ areaSaid r (now (area .exit)) ≡ resizedIn address size way by (now (area .entry)) ⌝ }
-{
-    let space = area_bytes::read(area, table);
-    if !space.is_sound(table) {
-        return NOT_SOUND;
-    }
-    match space.decide_resize(table, address, size, way, by) {
-        ResizeDecision::Change(plan) => {
-            carry_out(space, table, plan, area);
-            DONE
-        }
-        ResizeDecision::Refused(answer) => resize_number(answer),
+        Decision::Refused(number) => Told {
+            number,
+            address: NO_ADDRESS,
+        },
     }
 }

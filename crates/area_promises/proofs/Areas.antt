@@ -1,22 +1,21 @@
 -- The proofs of specs/Areas.antt.
 --
--- In this order: what `inArea` leaves; the statements on single calls; runs; releases in any order.
+-- In this order: the two ways of what a call leaves; the statements on single calls; runs; releases in any order.
 --
 -- Assumes nothing.
-use Prim.Native.Nat.{ℕ, _+_, _*_, _≤_, _<_}
-use mathlib.Core.Bool.{Bool, true, false, cond}
+use Prim.Native.Nat.{ℕ, _≤_}
+use mathlib.Core.Bool.{Bool, true, false}
 use mathlib.Core.List.{List, [], _∷_, List·Memᴰ, List·Memᴰ·head, List·Memᴰ·tail, List·Permᴰ}
 use mathlib.Core.Path.{_≡_, refl, sym, ap, _∙_, subst}
 use native.Mathlib.Decide.{ℕ-discrete}
 use native.Mathlib.Omega.{arith}
-use lib.Dec.{eqb, ltb}
 use lib.ListN.{length, take, drop, replicate}
 use lib.Seq.{take-at, drop-at}
-use borrow.Author.Tests.{eq-eqb, ne-eqb, eqb-true, lt-ltb, le-ltb, ltb-false}
 use Rattle.area_bytes.proofs.AreaLaws.{area-lengths, area-fits, length-area, area-read, area-written}
 use Rattle.area_bytes.specs.Area.{AreaLength, areaLengthb, tableAt, tableWords, stateIn, wordsIn, areaOf}
-use Rattle.area_calls.specs.Calls.{Left, LeftBoth, leftBy, areaSaid, bothSaid, inArea, openedIn, allocatedIn, withAddress}
-use Rattle.area_promises.specs.Areas.{wrongLength, calledIn, RanIn, ranIn, AreaBytes, AreaCalls, AreaRefused, AreaDone, RunsAlike, AreaRuns}
+use Rattle.area_calls.proofs.CallLaws.{in-other, in-done, in-refused, with-done, with-refused, in-short, in-enough}
+use Rattle.area_calls.specs.Calls.{Left, LeftBoth, leftBy, inArea, allocatedIn}
+use Rattle.area_promises.specs.Areas.{wrongLength, calledIn, ranIn, AreaBytes, AreaCalls, AreaRefused, AreaDone, RunsAlike, AreaRuns}
 use Rattle.area_promises.specs.Areas.{AreaAnyOrder, OneArea}
 use Rattle.area_promises.proofs.WordLaws.{sound-words, bytes-area}
 use Rattle.demands.proofs.AnyOrder.{any-order, two-orders}
@@ -25,10 +24,10 @@ use Rattle.demands.proofs.Refusals.{refusals}
 use Rattle.demands.specs.Calls.{Call, opens, allocates, releases, extends, shortens, called, OnSpace, allocating, releasing, extending, shortening}
 use Rattle.demands.specs.Calls.{refusalsOf, handedBack, Ran, ran, releasesOf}
 use Rattle.demands.specs.Demands.{Answered, accepted, refused, Releasable}
-use Rattle.little.proofs.LittleLaws.{length-numbers, length-bytesOf, little-bytesOf}
-use Rattle.little.specs.Little.{byteValues, wordBytes, little, bytesOf, laid, valueAt, Bytes}
-use Rattle.pages.proofs.Numbers.{split, not-both}
-use Rattle.refusals.specs.AnswerNumbers.{notSound, sliceTooShort}
+use Rattle.little.proofs.LittleLaws.{length-numbers, length-bytesOf}
+use Rattle.little.specs.Little.{wordBytes, bytesOf, laid, Bytes}
+use Rattle.pages.proofs.Numbers.{split}
+use Rattle.refusals.specs.AnswerNumbers.{notSound}
 use Rattle.rules.specs.Editing.{Name}
 use Rattle.space.proofs.GiveLaws.{released-unsound, resized-unsound}
 use Rattle.space.proofs.OutcomeLaws.{is-sound-true}
@@ -38,18 +37,9 @@ use Rattle.space.specs.Placing.{Placed, allocated}
 use Rattle.space.specs.declared.Space.{Space}
 use Rattle.space.specs.declared.give.Way.the-variants.{Longer, Shorter}
 
--- ---- what `inArea` leaves
+-- ---- the two ways of what a call leaves
 
 module _ (k : ℕ) (b : List ℕ) (o : Outcome) where
-  in-yes : areaLengthb (length b) ≡ true → inArea k b o ≡ areaSaid (o .refusal) (cond (eqb (o .refusal) 0) (leftBy o) b)
-  unfolding inArea
-  in-yes e = rw e
-
-  in-no : areaLengthb (length b) ≡ false → inArea k b o ≡ areaSaid k b
-  unfolding inArea
-  in-no e = rw e
-
-  -- the two ways of it
   data Ways : Type 0 where
     as-came : inArea k b o .area ≡ b → Ways
     done : areaLengthb (length b) ≡ true → o .refusal ≡ 0 → inArea k b o .area ≡ leftBy o → Ways
@@ -58,11 +48,11 @@ module _ (k : ℕ) (b : List ℕ) (o : Outcome) where
   ways = go (areaLengthb (length b)) refl
     where
       go : (t : Bool) → areaLengthb (length b) ≡ t → Ways
-      go false e = as-came (ap (λ (l : Left). l .area) (in-no e))
+      go false e = as-came (ap (λ (l : Left). l .area) (in-other k b o e))
       go true e =
           elim (ℕ-discrete (o .refusal) 0) [
-            | yes z ↦ let t : eqb (o .refusal) 0 ≡ true = eq-eqb (o .refusal) 0 z in done e z (ap (λ (l : Left). l .area) (in-yes e) ∙ rw t)
-            | no n ↦ let t : eqb (o .refusal) 0 ≡ false = ne-eqb (o .refusal) 0 n in as-came (ap (λ (l : Left). l .area) (in-yes e) ∙ rw t)
+            | yes z ↦ done e z (ap (λ (l : Left). l .area) (in-done k b o e z))
+            | no n ↦ as-came (ap (λ (l : Left). l .area) (in-refused k b o e n))
           ]
 
 -- ---- what an accepted call leaves
@@ -111,7 +101,11 @@ module _ (c : Call) (b : List ℕ) where
   left-by = called c (stateIn b) (wordsIn b)
 
   number-is : areaLengthb (length b) ≡ true → calledIn c b .refusal ≡ left-by .refusal
-  number-is e = ap (λ (l : Left). l .refusal) (in-yes (wrongLength c) b left-by e)
+  number-is e =
+      elim (ℕ-discrete (left-by .refusal) 0) [
+        | yes z ↦ ap (λ (l : Left). l .refusal) (in-done (wrongLength c) b left-by e z)
+        | no n ↦ ap (λ (l : Left). l .refusal) (in-refused (wrongLength c) b left-by e n)
+      ]
 
   -- an accepted call is one on an area
   accepted-form : calledIn c b .refusal ≡ 0 → areaLengthb (length b) ≡ true
@@ -119,12 +113,10 @@ module _ (c : Call) (b : List ℕ) where
     where
       go : (t : Bool) → areaLengthb (length b) ≡ t → areaLengthb (length b) ≡ true
       go true f = f
-      go false f = absurd (wrong-some c (sym (ap (λ (l : Left). l .refusal) (in-no (wrongLength c) b left-by f)) ∙ e))
+      go false f = absurd (wrong-some c (sym (ap (λ (l : Left). l .refusal) (in-other (wrongLength c) b left-by f)) ∙ e))
 
   accepted-area : areaLengthb (length b) ≡ true → left-by .refusal ≡ 0 → calledIn c b .area ≡ leftBy left-by
-  accepted-area f e =
-      let t : eqb (left-by .refusal) 0 ≡ true = eq-eqb (left-by .refusal) 0 e in
-      ap (λ (l : Left). l .area) (in-yes (wrongLength c) b left-by f) ∙ rw t
+  accepted-area f e = ap (λ (l : Left). l .area) (in-done (wrongLength c) b left-by f e)
 
   left-same : (calledIn c b .refusal ≡ 0 → ⊥) → calledIn c b .area ≡ b
   left-same n = go (ways (wrongLength c) b left-by)
@@ -153,16 +145,6 @@ module _ (c : Call) (b : List ℕ) where
 pub area-bytes : AreaBytes
 area-bytes = record { lengths = area-lengths; read = area-read; written = area-written }
 
--- enough room in the result
-enough : (t s : ℕ) (b r : List ℕ) → wordBytes ≤ length r
-    → allocatedIn t s b r ≡ withAddress (allocated (stateIn b) t s (wordsIn b) .address) r (calledIn (allocates t s) b)
-unfolding allocatedIn called
-enough t s b r h = rw (le-ltb (length r) wordBytes h)
-
-short : (t s : ℕ) (b r : List ℕ) → length r < wordBytes → allocatedIn t s b r ≡ bothSaid sliceTooShort b r
-unfolding allocatedIn
-short t s b r h = rw (lt-ltb (length r) wordBytes h)
-
 pub area-calls : AreaCalls
 unfolding called
 area-calls =
@@ -171,7 +153,7 @@ area-calls =
       releasing = λ a z b. refl;
       extending = λ a z m b. refl;
       shortening = λ a z k b. refl;
-      allocating = λ t s b r h. ap (λ (l : LeftBoth). l .left) (enough t s b r h);
+      allocating = λ t s b r h. ap (λ (l : LeftBoth). l .left) (in-enough t s b r h);
     }
 
 no-area : (len : ℕ) → (AreaLength len → ⊥) → areaLengthb len ≡ false
@@ -181,34 +163,28 @@ no-area len n = go (areaLengthb len) refl
     go true e = absurd (n (area-lengths len .1 e))
     go false e = e
 
--- the result of a call that is not accepted
-result-same : (a : ℕ) (r : List ℕ) (l : Left) → (l .refusal ≡ 0 → ⊥) → withAddress a r l .result ≡ r
-result-same a r l n = let t : eqb (l .refusal) 0 ≡ false = ne-eqb (l .refusal) 0 n in rw t
-
-result-laid : (a : ℕ) (r : List ℕ) (l : Left) → l .refusal ≡ 0 → withAddress a r l .result ≡ laid 0 wordBytes (bytesOf wordBytes a) r
-result-laid a r l e = let t : eqb (l .refusal) 0 ≡ true = eq-eqb (l .refusal) 0 e in rw t
-
 module _ (t s : ℕ) (b r : List ℕ) where
+  abbrev left-there : Left
+  left-there = inArea notSound b (allocated (stateIn b) t s (wordsIn b) .outcome)
+
   refused-result : (allocatedIn t s b r .left .refusal ≡ 0 → ⊥) → allocatedIn t s b r .result ≡ r
   refused-result n =
       split wordBytes (length r)
-      (λ h. let e = enough t s b r h in
-      ap (λ (l : LeftBoth). l .result) e
-      ∙ result-same _ r (calledIn (allocates t s) b) (λ z. n (ap (λ (l : LeftBoth). l .left .refusal) e ∙ z)))
-      (λ h. ap (λ (l : LeftBoth). l .result) (short t s b r h))
+      (λ h. let e = in-enough t s b r h in
+      ap (λ (l : LeftBoth). l .result) (e ∙ with-refused _ r left-there (λ z. n (ap (λ (l : LeftBoth). l .left .refusal) e ∙ z))))
+      (λ h. ap (λ (l : LeftBoth). l .result) (in-short t s b r h))
 
   -- an accepted one had room
   room : allocatedIn t s b r .left .refusal ≡ 0 → wordBytes ≤ length r
   room e =
       split wordBytes (length r) (λ h. h)
-      (λ h. absurd (omega (arith, sym (ap (λ (l : LeftBoth). l .left .refusal) (short t s b r h)) ∙ e)))
+      (λ h. absurd (omega (arith, sym (ap (λ (l : LeftBoth). l .left .refusal) (in-short t s b r h)) ∙ e)))
 
   laid-result : allocatedIn t s b r .left .refusal ≡ 0
       → allocatedIn t s b r .result ≡ laid 0 wordBytes (bytesOf wordBytes (allocated (stateIn b) t s (wordsIn b) .address)) r
   laid-result e =
-      let f = enough t s b r (room e) in
-      ap (λ (l : LeftBoth). l .result) f
-      ∙ result-laid _ r (calledIn (allocates t s) b) (sym (ap (λ (l : LeftBoth). l .left .refusal) f) ∙ e)
+      let f = in-enough t s b r (room e) in
+      ap (λ (l : LeftBoth). l .result) (f ∙ with-done _ r left-there (sym (ap (λ (l : LeftBoth). l .left .refusal) f) ∙ e))
 
   later-result : drop wordBytes (allocatedIn t s b r .result) ≡ drop wordBytes r
   later-result =
@@ -221,8 +197,8 @@ pub area-refused : AreaRefused
 area-refused =
     record {
       calls = left-same;
-      other-length = λ c b n. in-no (wrongLength c) b (called c (stateIn b) (wordsIn b)) (no-area (length b) n);
-      short-result = short;
+      other-length = λ c b n. in-other (wrongLength c) b (called c (stateIn b) (wordsIn b)) (no-area (length b) n);
+      short-result = in-short;
       result = refused-result;
     }
 

@@ -4,7 +4,7 @@
 --   bytes-area       the bytes that are written are below 256
 --
 -- Assumes nothing.
-use Prim.Native.Nat.{ℕ, zero, suc, _+_, _-_, _*_, _/_, _^_, _≤_, _<_}
+use Prim.Native.Nat.{ℕ, zero, suc, _+_, _*_, _/_, _^_, _≤_, _<_}
 use mathlib.Core.List.{List, [], _∷_}
 use mathlib.Core.Path.{_≡_}
 use native.Mathlib.Omega.{arith}
@@ -14,7 +14,6 @@ use Rattle.area_bytes.specs.Area.{stateWords, areaOf, Words}
 use Rattle.little.proofs.LittleLaws.{below-append, bytes-bytesOf}
 use Rattle.little.specs.Little.{byteValues, wordBytes, bytesOf, bytesOfAll, Bytes, Below}
 use Rattle.pages.proofs.Numbers.{split}
-use Rattle.pieces.specs.Pieces.{behind}
 use Rattle.pieces.specs.Words.{entryWords, entryAt, kindAt}
 use Rattle.space.specs.Outcomes.{SoundSpace}
 use Rattle.space.specs.declared.Space.{Space}

@@ -1,6 +1,7 @@
 -- `area::filespace_open` meets its contract: it is refused where the length is no area's, and else `area_calls::open` on a table of the area's length.
 -- Assumes nothing.
-use Rattle.area_calls.proofs.CallLaws.{left-other}
+use mathlib.Core.Path.{sym}
+use Rattle.area_calls.proofs.CallLaws.{in-other}
 use Rattle.area.proofs.LentLaws.{head-within, lent-within, lent-long, lent}
 use Rattle.pages.proofs.Numbers.{fails}
 use Rattle.refusals.specs.AnswerNumbers.{outOfRange}
@@ -12,7 +13,7 @@ is-area-length-requires : tie.Need-is-area-length-requires
 is-area-length-requires c κs = search needs
 
 returns : tie.Need-returns
-returns c = left-other outOfRange (c .before .before .before .args .area .now) _ (fails (c .before .is-area-length .ensures) (c .if1 .taken))
+returns c = sym (in-other outOfRange (c .before .before .before .args .area .now) _ (fails (c .before .is-area-length .ensures) (c .if1 .taken)))
 
 zero-words-requires : tie.Need-zero-words-requires
 zero-words-requires c κs = search needs

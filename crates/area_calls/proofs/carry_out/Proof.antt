@@ -1,5 +1,4 @@
 -- `area_calls::carry_out` meets its contract: what it does not write, the change leaves as it was. Assumes nothing.
-use Prim.Native.Nat.{_≤_}
 use mathlib.Core.Path.{_≡_, ap, _∙_}
 use native.Mathlib.Omega.{arith}
 use lib.ListN.{length}
