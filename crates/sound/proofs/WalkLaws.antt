@@ -22,11 +22,11 @@ use Rattle.pieces.specs.declared.Piece.{Piece}
 use Rattle.pieces.specs.declared.Words.{Words}
 use Rattle.pieces.specs.declared.Status.the-variants.{Live}
 use Rattle.pieces.specs.declared.Status.{Status}
-use Rattle.sound.proofs.StateLaws.{state-most, step-entry, step-grows, went, broke}
-use Rattle.sound.specs.Walk.{walkAt, Walked, stepb, stepped, WalkFits}
-use Rattle.sound.specs.declared.walk.Step.the-variants.{On, Broken}
-use Rattle.sound.specs.declared.walk.Walk.{Walk}
 use Rattle.table.specs.Local.{entryb, noneb, chainb, kindsb}
+use Rattle.walk.proofs.StateLaws.{state-most, step-entry, step-grows, went, broke}
+use Rattle.walk.specs.Walk.{walkAt, Walked, stepb, stepped, WalkFits}
+use Rattle.walk.specs.declared.Step.the-variants.{On, Broken}
+use Rattle.walk.specs.declared.Walk.{Walk}
 
 -- ---- what is left to test
 

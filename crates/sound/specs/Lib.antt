@@ -1,3 +1,2 @@
--- What the contracts of `sound` cite beside the local test of `table`.
-pub mod Walk
+-- What the contracts of `sound` cite beside the specs of `table` and `walk`.
 pub mod Zeros

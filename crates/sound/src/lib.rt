@@ -1,8 +1,6 @@
 // Whether a state and a lent table are sound together: the ranges, one pass over the entries that refuses at the first break of a local
 // rule and asks at its end whether it came to E, and the zero words behind them. Any four numbers and any slice get an answer, and no sum can
 // overflow.
-pub mod walk;
-
 ghost use mathlib.Core.Path.{_≡_};
 ghost use Prim.Native.Nat.{_+_, _≤_};
 ghost use mathlib.Core.Bool.{_&&_};
@@ -11,9 +9,9 @@ ghost use lib.ListN.{length, take, drop};
 ghost use Rattle.pieces.specs.declared.Class.the-variants.{Large};
 ghost use Rattle.pieces.specs.declared.Status.the-variants.{Live};
 ghost use Rattle.pieces.specs.Words.{entries};
-ghost use Rattle.sound.specs.Walk.{WalkFits};
 ghost use Rattle.sound.specs.Zeros.{zeroBlock};
 ghost use Rattle.table.specs.Local.{tableLengthb, rangesb, kindsb, zerosb, chainb, localb};
+ghost use Rattle.walk.specs.Walk.{WalkFits};
 use pieces::ENTRY_WORDS;
 
 pub const LARGEST_LIMIT: u64 = 4611686018427387904;

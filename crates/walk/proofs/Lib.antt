@@ -1,0 +1,4 @@
+-- The laws that the proofs of this and of the higher crates cite.
+pub mod PackedLaws
+pub mod StepLaws
+pub mod StateLaws
