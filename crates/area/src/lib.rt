@@ -1,9 +1,9 @@
 // The calls for a program in C (include/filespace.h), over one area of bytes that it keeps: the state, and behind it the table. The answer is the
 // number of document 01 and the requests, 0 for done. A refused call writes no byte.
 //
-// Each exported call looks at the lengths, and lends a local table to its twin in `area_calls`, which reads state and words out of the area, tests them, decides
-// (`space`), and only then writes: the state, and the entries from the first that the change replaces up to the last one. An opening reads nothing, and
-// writes all.
+// An opening, and one function for all that can be asked of an open file, look at the area's length, and lend a local table to their twins in
+// `area_calls`. These decide (`space`) on the state and the words that the bytes are, and only then write: the state, and the entries from the first
+// that the change replaces up to the last one. An opening reads nothing, and writes all.
 ghost use mathlib.Core.Path.{_≡_};
 ghost use lib.ListN.{length};
 ghost use Rattle.area_calls.specs.Asking.{Tells};

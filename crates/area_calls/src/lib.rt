@@ -1,13 +1,13 @@
-// The calls over an area of a known length, with a table for its words. All but an opening are one: what is asked is read, tested and decided on,
-// and only then written.
+// The calls over an area of a known length, with a table for its words. All but an opening are one function: state and words are read and tested, what
+// is asked is decided on, and only then a byte is written.
 ghost use mathlib.Core.Path.{_≡_};
-ghost use Prim.Native.Nat.{max};
 ghost use Rattle.area_calls.specs.Asking.{meant, Leads, Tells};
 ghost use Rattle.area_calls.specs.Calls.{Lent, Holds, areaSaid, openedIn, leftBy};
 ghost use Rattle.settle.specs.Settle.{CarryFits};
 ghost use Rattle.space.specs.Halves.{carried};
 ghost use Rattle.space.specs.Outcomes.{SoundSpace};
 use change::plan::Plan;
+use pages::larger;
 use refusals::DONE;
 use refusals::NO_ADDRESS;
 use refusals::NOT_SOUND;
@@ -35,35 +35,26 @@ pub fn open(page: u64, limit: u64, area: &mut [u8], table: &mut [u64]) -> u64
     number
 }
 
-fn larger(a: usize, b: usize) -> usize
-    ensures { λ r. ⌜ r ≡ max a b ⌝ }
-{
-    if a < b {
-        return b;
-    }
-    a
-}
-
 // The change that was decided on is carried out in the table, and written: the state, and the entries from the first that it replaces up to the last
 // one, old or new.
 fn carry_out(space: Space, table: &mut [u64], plan: Plan, area: &mut [u8])
     requires { ⌜ Holds (now area) space (now table) × CarryFits (space .count) (now table) plan ⌝ }
     ensures { λ _. ⌜ now (area .exit) ≡ leftBy (carried space (now (table .entry)) plan) ⌝ }
 {
-    let to = larger(space.count as usize, plan.count);
+    let to = larger(space.count, plan.count as u64) as usize;
     let next = space.carry_out(table, plan);
     area_bytes::put_state(next, area);
     area_bytes::put_entries(table, plan.from, to, area);
 }
 
-// What is asked of a file that was opened.
+// What is asked of a file that was opened: a type's code and a size; a piece's address and size; a piece's, which way, and by how much.
 pub enum Asked {
     Allocate(u64, u64),
     Release(u64, u64),
     Resize(u64, u64, Way, u64),
 }
 
-// What is told: the number, and the address of a new piece, where there is one.
+// What is told: the number, and the address of a new piece, 2^64 - 1 where there is none.
 pub struct Told {
     pub number: u64,
     pub address: u64,
@@ -75,6 +66,7 @@ pub enum Decision {
     Refused(u64),
 }
 
+// Each call's own half decides. Nothing is written.
 fn decide(space: Space, table: &[u64], asked: Asked) -> Decision
     requires { ⌜ SoundSpace space (now table) ⌝ }
     ensures { λ r. ⌜ Leads space (now (table .entry)) (meant asked space (now (table .entry))) r ⌝ }
@@ -97,6 +89,7 @@ fn decide(space: Space, table: &[u64], asked: Asked) -> Decision
     }
 }
 
+// State and words are read and tested, and the change that is decided on is written, or the refusal told.
 pub fn call(area: &mut [u8], table: &mut [u64], asked: Asked) -> Told
     requires { ⌜ Lent (now area) (now table) ⌝ }
     ensures { λ r. ⌜ Tells asked (now (area .entry)) r (now (area .exit)) ⌝ }

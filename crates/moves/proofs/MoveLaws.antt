@@ -1,18 +1,18 @@
 -- Laws of the loops that move and clear words. What such a loop must do is `paste` of lib.Seq: some words in place of others.
 --
 -- In this order: words loaded and then stored (stored) are a move; two pastes side by side; a move after a move, downwards and upwards; the words
--- while a copy upwards has k words to go (rising), and a turn of it; a turn of the loop that clears; all words from a place up to the last
--- that is in use moved up, moved down (moved).
+-- while a copy upwards has k words to go (rising), and a turn of it; a turn of the loop that clears, and all words cleared; all words from a place
+-- up to the last that is in use moved up, moved down (moved).
 --
 -- Assumes nothing.
 use mathlib.Core.Path.{_≡_, refl, sym, ap, _∙_}
-use mathlib.Core.List.{List, _++_, append-assoc}
+use mathlib.Core.List.{List, [], _++_, append-assoc, append-nil}
 use Prim.Native.Nat.{ℕ, zero, suc, _+_, _-_, _≤_, _<_}
 use native.Mathlib.Omega.{arith}
 use native.Mathlib.Nat.{add-zero, add-assoc, sub-zero, le-refl}
 use native.Mathlib.Numerals.{add-one}
 use lib.ListN.{length, take, drop, getD, set, replicate, length-take, length-drop, length-replicate, getD-replicate}
-use lib.ListN.{replicate-append-replicate}
+use lib.ListN.{replicate-append-replicate, drop-of-length-le}
 use lib.Seq.{paste, paste-zero, paste-suc, take-paste, drop-paste, getD-drop, take-all, take-take, take-add, take-append-le, drop-drop, drop-at}
 use lib.Seq.{length-take-le, length-paste}
 use Rattle.moves.proofs.SliceLaws.{drop-replicate, part-front}
@@ -117,6 +117,15 @@ clear-next d from len k t fits lt is =
     ∙ ap (λ (x : ℕ). set (paste d from (replicate len 0) k) (from + k) x) (sym (getD-replicate len k 0 0 lt))
     ∙ paste-suc d from (replicate len 0) k 0 (omega arith) (rw length-replicate lt)
     ∙ rw add-one
+
+-- ---- all words cleared
+
+pub cleared-all : (w v : List ℕ) → v ≡ paste w 0 (replicate (length w) 0) (length w) → v ≡ replicate (length w) 0
+cleared-all w v is =
+    let z : List ℕ = replicate (length w) 0 in
+    let all = take-all (length w) z (rw length-replicate (le-refl (length w))) in
+    let behind : drop (0 + length w) w ≡ [] = drop-of-length-le w {i = 0 + length w} (omega arith) in
+    is ∙ rw (all, behind) (append-nil z)
 
 -- ---- all words from a place up to the last that is in use, moved
 

@@ -104,3 +104,11 @@ pub fn clear(table: &mut [u64], from: usize, len: usize)
         k = k + 1;
     }
 }
+
+// Every word becomes 0.
+pub fn clear_all(table: &mut [u64])
+    ensures { λ _. ⌜ now (table .exit) ≡ replicate (length (now (table .entry))) 0 ⌝ }
+{
+    let len = table.len();
+    clear(table, 0, len);
+}

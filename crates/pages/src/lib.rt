@@ -1,6 +1,7 @@
-// Page borders. P is any page size from 512 to 2^30: no power of two is assumed, so a border is found by division and never by a mask.
+// Page borders. P is any page size from 512 to 2^30: no power of two is assumed, so a border is found by division and never by a mask. And the larger of
+// two numbers, which has nothing to do with pages.
 ghost use mathlib.Core.Path.{_≡_};
-ghost use Prim.Native.Nat.{_+_, _≤_, _<_, _^_};
+ghost use Prim.Native.Nat.{_+_, _≤_, _<_, _^_, max};
 ghost use Rattle.pages.specs.Pages.{down, up, upFrom, borderb, pageSizeb};
 
 pub const LEAST_PAGE: u64 = 512;
@@ -51,4 +52,11 @@ pub fn up_from(p: u64, a: u64) -> u64
         return 0;
     }
     p - over
+}
+
+// The larger of two numbers.
+pub fn larger(a: u64, b: u64) -> u64
+    ensures { λ r. ⌜ r ≡ max a b ⌝ }
+{
+    if a < b { b } else { a }
 }

@@ -8,10 +8,10 @@ ghost use Rattle.sections.specs.Sections.{sections};
 ghost use Rattle.running.specs.Replacing.{exchanged, Exchangeable, Beside, Replaces};
 ghost use Rattle.totals.specs.Counting.{Countable};
 ghost use Rattle.totals.specs.Summary.{largest, largestOf, summaryOf, agreesb};
+use pages::larger;
 use pieces::Class;
 use totals::MANAGERS;
 use totals::Summary;
-use totals::larger;
 use totals::largest_of;
 use totals::work_out;
 

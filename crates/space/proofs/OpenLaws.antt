@@ -1,32 +1,20 @@
 -- Laws of an opening.
 --
--- In this order: words cleared from the first to the last (cleared-all); the whole call, refused and done (opened); the state that it leaves is
--- sound (opened-sound), or refused by every call (nowhere-unsound).
+-- In this order: the whole call, refused and done (opened); the state that it leaves is refused by every call (nowhere-unsound), or sound
+-- (opened-sound).
 --
 -- Assumes nothing.
-use Prim.Native.Nat.{ℕ, _+_, _*_}
+use Prim.Native.Nat.{ℕ, _*_}
 use mathlib.Core.Bool.{true, false}
-use mathlib.Core.List.{List, [], append-nil}
-use mathlib.Core.Path.{_≡_, refl, _∙_}
-use native.Mathlib.Nat.{le-refl}
-use native.Mathlib.Omega.{arith}
-use lib.ListN.{length, replicate, drop, length-replicate, getD-replicate, drop-of-length-le}
-use lib.Seq.{paste, take-all}
+use mathlib.Core.List.{List}
+use mathlib.Core.Path.{_≡_, refl}
+use lib.ListN.{length, replicate, drop, length-replicate, getD-replicate}
 use Rattle.pieces.specs.Words.{entryWords, entries}
 use Rattle.refusals.specs.AnswerNumbers.{outOfRange}
 use Rattle.space.specs.Opening.{nowhere, opened}
 use Rattle.space.specs.Outcomes.{soundb}
 use Rattle.table.proofs.LocalLaws.{true-zeros}
 use Rattle.table.specs.Local.{rangesb, kindsb, zerosb, chainb, localb}
-
--- ---- the words
-
-pub cleared-all : (w v : List ℕ) → v ≡ paste w 0 (replicate (length w) 0) (length w) → v ≡ replicate (length w) 0
-cleared-all w v is =
-    let z : List ℕ = replicate (length w) 0 in
-    let all = take-all (length w) z (rw length-replicate (le-refl (length w))) in
-    let behind : drop (0 + length w) w ≡ [] = drop-of-length-le w {i = 0 + length w} (omega arith) in
-    is ∙ rw (all, behind) (append-nil z)
 
 -- ---- the whole call
 

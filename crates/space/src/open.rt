@@ -1,6 +1,5 @@
 // Opening a space over a lent table: P, M and the table's length lie in the ranges of a sound state with E and n 0.
 ghost use mathlib.Core.Path.{_≡_};
-ghost use lib.ListN.{length, replicate};
 ghost use Rattle.space.specs.Opening.{opened, defaultPage, defaultLimit};
 ghost use Rattle.space.specs.Said.{openSaid};
 use crate::Space;
@@ -10,14 +9,6 @@ use crate::answers::Opened;
 const DEFAULT_PAGE: u64 = 4096;
 
 const DEFAULT_LIMIT: u64 = sound::LARGEST_LIMIT;
-
-// Every word becomes 0.
-fn clear(table: &mut [u64])
-    ensures { λ _. ⌜ now (table .exit) ≡ replicate (length (now (table .entry))) 0 ⌝ }
-{
-    let len = table.len();
-    moves::clear(table, 0, len);
-}
 
 impl Space {
     // An empty space over a table whose old words are not looked at.
@@ -35,7 +26,7 @@ impl Space {
                 answer: OpenAnswer::OutOfRange,
             };
         }
-        clear(table);
+        moves::clear_all(table);
         Opened {
             space: Space {
                 page,

@@ -1,12 +1,13 @@
 // The running summary for the inspection sheet, worked out of the entries of a table.
 ghost use mathlib.Core.Path.{_≡_};
-ghost use Prim.Native.Nat.{_-_, _*_, _^_, _≤_, _<_, max};
+ghost use Prim.Native.Nat.{_-_, _*_, _^_, _≤_, _<_};
 ghost use lib.IntN.{pos};
 ghost use lib.ListN.{length};
 ghost use Rattle.pieces.specs.Words.{entryWords, entries};
 ghost use Rattle.sections.specs.Sections.{sections};
 ghost use Rattle.totals.specs.Counting.{Countable};
 ghost use Rattle.totals.specs.Summary.{largest, decadeOf, summaryOf, noTotals, movedBy};
+use pages::larger;
 use pieces::Class;
 use pieces::kind;
 
@@ -62,13 +63,6 @@ pub fn decade_of(size: u64) -> usize
         edge = edge * TEN;
     }
     decade
-}
-
-// The larger of two numbers.
-pub fn larger(a: u64, b: u64) -> u64
-    ensures { λ r. ⌜ r ≡ max a b ⌝ }
-{
-    if a < b { b } else { a }
 }
 
 // The summary of the entries between two places of a table, afresh: no call has moved the end.

@@ -16,8 +16,8 @@ returns c =
     let refused = fails (c .before .in-ranges .ensures) (c .if1 .taken) in
     sym (opened-refused (a .page) (a .limit) (a .table .now) refused)
 
-clear-requires : tie.Need-clear-requires
-clear-requires c κs = search needs
+clear-all-requires : tie.Need-clear-all-requires
+clear-all-requires c κs = search needs
 
 same-length : tie.Need-same-length
 same-length c = search needs
@@ -26,8 +26,8 @@ returns-2 : tie.Need-returns-2
 returns-2 c =
     let a = c .before .before .before .before .before .before .before .args in
     let may = passes (c .before .before .before .before .before .in-ranges .ensures) (c .before .before .before .before .if1 .left) in
-    let zeros = c .before .before .clear .ensures in
+    let zeros = c .before .before .clear-all .ensures in
     sym (rw (← zeros) at (opened-done (a .page) (a .limit) (a .table .now) may))
 
 pub open-spec : {M : Type 1} → statement M
-open-spec = tie.close (tie.spec in-ranges-requires returns clear-requires same-length returns-2)
+open-spec = tie.close (tie.spec in-ranges-requires returns clear-all-requires same-length returns-2)
