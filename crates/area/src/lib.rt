@@ -6,7 +6,7 @@
 // that the change replaces up to the last one. An opening reads nothing, and writes all.
 ghost use mathlib.Core.Path.{_≡_};
 ghost use lib.ListN.{length};
-ghost use Rattle.area_calls.specs.Asking.{Tells};
+ghost use Rattle.area_calls.specs.Asking.{ToldIn};
 ghost use Rattle.area_calls.specs.Calls.{areaSaid, bothSaid, openedIn, allocatedIn, releasedIn, extendedIn, shortenedIn};
 ghost use Rattle.pieces.specs.Words.{entryWords};
 ghost use Rattle.table.specs.Sound.{largestCapacity};
@@ -49,7 +49,7 @@ pub extern "C" fn filespace_open(page: u64, limit: u64, area: &mut [u8]) -> u64
 
 // A call on the file in the area; bytes that are no area are refused as unsound.
 fn call(area: &mut [u8], asked: Asked) -> Told
-    ensures { λ r. ⌜ Tells asked (now (area .entry)) r (now (area .exit)) ⌝ }
+    ensures { λ r. ⌜ ToldIn asked (now (area .entry)) r (now (area .exit)) ⌝ }
 {
     let n = area.len();
     if !is_area_length(n) {

@@ -22,7 +22,7 @@ use lib.ListN.{length, take, drop}
 use borrow.Author.Tests.{eq-eqb, ne-eqb, lt-ltb, le-ltb}
 use Rattle.area_bytes.proofs.AreaLaws.{head-over, entries-over, area-read}
 use Rattle.area_bytes.specs.Area.{tableAt, entryBytes, areaLengthb, tableWords, stateIn, wordsIn, headOf, areaOf}
-use Rattle.area_calls.specs.Asking.{meant, leftIn, addressIn, Leads, Tells}
+use Rattle.area_calls.specs.Asking.{meant, leftIn, addressIn, Leads, ToldIn}
 use Rattle.area_calls.specs.Calls.{Left, leftBy, areaSaid, bothSaid, inArea, openedIn, withAddress, allocatedIn, Lent, Holds}
 use Rattle.area_calls.specs.declared.Asked.{Asked}
 use Rattle.area_calls.specs.declared.Asked.the-variants.{Allocate, Release, Resize}
@@ -144,7 +144,7 @@ module _ (b : List ℕ) (form : areaLengthb (length b) ≡ true) (sp : Space) (w
     address-same = rw form (ap (λ (o : Placed). o .address) same)
 
     pub told-done : {a : ℕ} {plan : Plan} {c : List ℕ} → Leads sp w (meant q sp w) (Change a plan) → c ≡ leftBy (carried sp w plan)
-        → Tells q b (record { number = 0; address = a }) c
+        → ToldIn q b (record { number = 0; address = a }) c
     told-done d e =
         let leads = d .1 .leads in
         record {
@@ -152,21 +152,21 @@ module _ (b : List ℕ) (form : areaLengthb (length b) ≡ true) (sp : Space) (w
           address = d .0 ∙ address-same;
         }
 
-    pub told-refused : {k : ℕ} → Leads sp w (meant q sp w) (Refused k) → Tells q b (record { number = k; address = noAddress }) b
+    pub told-refused : {k : ℕ} → Leads sp w (meant q sp w) (Refused k) → ToldIn q b (record { number = k; address = noAddress }) b
     told-refused d =
         record {
           left = left-refused notSound b (meant q sp w .outcome) form (ap (λ (o : Outcome). o .refusal) (d .1 .leads)) (d .1 .some) ∙ left-same;
           address = d .0 ∙ address-same;
         }
 
-    pub told-unsound : soundb sp w ≡ false → Tells q b (record { number = notSound; address = noAddress }) b
+    pub told-unsound : soundb sp w ≡ false → ToldIn q b (record { number = notSound; address = noAddress }) b
     told-unsound e =
         let u = sym (meant-unsound q sp w e) in
         let refuses : Refuses sp w (meant q sp w .outcome) notSound = record { leads = ap (λ (o : Placed). o .outcome) u; some = λ z. omega (arith, z) } in
         told-refused (ap (λ (o : Placed). o .address) u, refuses)
 
 -- of bytes that are no area
-pub told-other : (q : Asked) (b : List ℕ) → areaLengthb (length b) ≡ false → Tells q b (record { number = notSound; address = noAddress }) b
+pub told-other : (q : Asked) (b : List ℕ) → areaLengthb (length b) ≡ false → ToldIn q b (record { number = notSound; address = noAddress }) b
 told-other q b e = record { left = sym (in-other notSound b _ e); address = rw e }
 
 -- ---- an opening
@@ -224,7 +224,7 @@ module _ (t s : ℕ) (b r : List ℕ) where
   in-enough h = rw (le-ltb (length r) wordBytes h)
 
   -- y is what was told, and c the area then
-  module _ (long : wordBytes ≤ length r) {y : Told} {c : List ℕ} (told : Tells (Allocate t s) b y c) where
+  module _ (long : wordBytes ≤ length r) {y : Told} {c : List ℕ} (told : ToldIn (Allocate t s) b y c) where
     both : withAddress (due .address) r (areaSaid (y .number) c) ≡ allocatedIn t s b r
     both = ap (withAddress (due .address) r) (told .left) ∙ sym (in-enough long)
 

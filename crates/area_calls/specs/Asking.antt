@@ -4,7 +4,7 @@
 --   leftIn q b        what q leaves in the area b
 --   addressIn q b     the address that it is told; bytes that are no area give none
 --   Leads sp w o r    the decision r leads to o
---   Tells q b y c     y is what q is told of the area b, which is c then
+--   ToldIn q b y c    y is what q is told of the area b, which is c then
 --
 -- Assumes nothing.
 use mathlib.Core.Bool.{cond}
@@ -40,6 +40,6 @@ abbrev pub Leads : Space → List ℕ → Placed → Decision → Type 0
 Leads sp w o (Change a plan) = (a ≡ o .address) × Carries sp w (o .outcome) plan
 Leads sp w o (Refused k) = (noAddress ≡ o .address) × Refuses sp w (o .outcome) k
 
-pub record Tells (q : Asked) (b : List ℕ) (y : Told) (c : List ℕ) : Type 0 where
+pub record ToldIn (q : Asked) (b : List ℕ) (y : Told) (c : List ℕ) : Type 0 where
   pub left : areaSaid (y .number) c ≡ leftIn q b
   pub address : y .address ≡ addressIn q b

@@ -1,7 +1,7 @@
 // The calls over an area of a known length, with a table for its words. All but an opening are one function: state and words are read and tested, what
 // is asked is decided on, and only then a byte is written.
 ghost use mathlib.Core.Path.{_≡_};
-ghost use Rattle.area_calls.specs.Asking.{meant, Leads, Tells};
+ghost use Rattle.area_calls.specs.Asking.{meant, Leads, ToldIn};
 ghost use Rattle.area_calls.specs.Calls.{Lent, Holds, areaSaid, openedIn, leftBy};
 ghost use Rattle.settle.specs.Settle.{CarryFits};
 ghost use Rattle.space.specs.Halves.{carried};
@@ -92,7 +92,7 @@ fn decide(space: Space, table: &[u64], asked: Asked) -> Decision
 // State and words are read and tested, and the change that is decided on is written, or the refusal told.
 pub fn call(area: &mut [u8], table: &mut [u64], asked: Asked) -> Told
     requires { ⌜ Lent (now area) (now table) ⌝ }
-    ensures { λ r. ⌜ Tells asked (now (area .entry)) r (now (area .exit)) ⌝ }
+    ensures { λ r. ⌜ ToldIn asked (now (area .entry)) r (now (area .exit)) ⌝ }
 {
     let space = area_bytes::read(area, table);
     if !space.is_sound(table) {
