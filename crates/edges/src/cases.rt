@@ -1,10 +1,10 @@
 // The accepted calls as claims, in short, and the tables that they must leave.
+use call::Call;
 use show::answer;
 use show::answer::Answer;
 use show::case;
 use show::claim::Tally;
 use show::scene;
-use show::scene::Call;
 use show::scene::Scene;
 use space::Space;
 use std::num::wrapping_add_u64;

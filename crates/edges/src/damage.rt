@@ -2,6 +2,7 @@
 // Each call must then refuse 2, but for the damages that leave a sound table, which are known in advance.
 use crate::listing;
 use crate::scenes;
+use call::Call;
 use pieces::ENTRY_WORDS;
 use show::answer;
 use show::answer::Answer;
@@ -10,7 +11,6 @@ use show::claim::Tally;
 use show::claim::say_verdict;
 use show::document::TABLE_WORDS;
 use show::scene;
-use show::scene::Call;
 use show::scene::Scene;
 use show::text::say;
 use show::text::say_line;

@@ -3,10 +3,10 @@
 use crate::cases::done;
 use crate::cases::placed;
 use crate::scenes;
+use call::Call;
 use show::case::refuses;
 use show::claim::Tally;
 use show::scene;
-use show::scene::Call;
 use space::place::METADATA;
 use space::place::RAW;
 

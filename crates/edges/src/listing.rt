@@ -1,13 +1,13 @@
 // Listing: refusals 2, 3, 10, and what a list slice holds after each call. Its six words are all 7 before.
 ghost use Prim.Native.Nat.{_≤_};
 use crate::scenes;
+use call::Call;
 use show::answer;
 use show::answer::Answer;
 use show::claim;
 use show::claim::Tally;
 use show::document::TABLE_WORDS;
 use show::scene;
-use show::scene::Call;
 use show::scene::Scene;
 use show::text::say;
 use show::text::say_number;

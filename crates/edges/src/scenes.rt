@@ -1,9 +1,9 @@
 // The tables that the cases start from.
+use call::Call;
 use pieces::ENTRY_WORDS;
 use show::document;
 use show::document::TABLE_WORDS;
 use show::scene;
-use show::scene::Call;
 use show::scene::Scene;
 use space::Space;
 use space::place::METADATA;

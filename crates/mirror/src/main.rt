@@ -2,13 +2,13 @@
 // same requests, both are purged by one list, each in an order of its own, and both get further requests. Every word must agree.
 //
 // It relies on the default page size, 4,096: the addresses below are those that document 01's rules give with it.
+use call::Call;
 use show::answer;
 use show::answer::Answer;
 use show::case;
 use show::claim::Tally;
 use show::claim::say_verdict;
 use show::scene;
-use show::scene::Call;
 use show::scene::Scene;
 use show::text::say;
 use show::text::say_line;

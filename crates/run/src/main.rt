@@ -1,5 +1,6 @@
 // Document 01's run with P = 512, M = 5,120, C = 12: each step with its answer, E and the table after it, then the run again with steps 11 and
 // 12 exchanged. Every answer and every E is compared with document 01's, and so are all words after steps 5 and 12.
+use call::Call;
 use show::answer;
 use show::answer::Answer;
 use show::case;
@@ -8,7 +9,6 @@ use show::claim::say_verdict;
 use show::document;
 use show::document::TABLE_WORDS;
 use show::scene;
-use show::scene::Call;
 use show::scene::Scene;
 use show::scene::WORDS;
 use show::text::say;

@@ -7,6 +7,7 @@
 --   SameScene s t         two scenes have the same words and the same state
 --   Left                  what a call leaves: its answer, the state, and the words of the lent table
 --   toldAs r w, leftAs a o   the same of what was told, and of an outcome of `space` whose answer is a where it is accepted
+--   acceptedAs c n        what the call c answers where it is accepted, with the answer n
 --   leftBy c sp w         what the call c leaves
 --   askedAs len w o       the scene of the words w after a call left o, with its answer
 --   askedOf s c           the call c, on the lent part of the scene s; the words behind that stay. askedIn has the lent words counted
@@ -22,19 +23,18 @@ use mathlib.Core.List.{List, [], _∷_, _++_}
 use Prim.Native.Nat.{ℕ, _*_}
 use lib.Dec.{ltb}
 use lib.ListN.{take, drop, replicate}
+use Rattle.call.specs.Answered.{answered}
+use Rattle.call.specs.declared.Call.{Call}
+use Rattle.call.specs.declared.Call.the-variants.{Allocate, Release, Extend, Shorten}
 use Rattle.pieces.specs.Pieces.{piece, statusOf}
 use Rattle.pieces.specs.Words.{entryWords, laid}
-use Rattle.space.specs.Giving.{released, extended, shortened}
 use Rattle.space.specs.Opening.{opened, defaultPage, defaultLimit}
 use Rattle.space.specs.Outcomes.{Outcome}
-use Rattle.space.specs.Placing.{allocated}
 use Rattle.space.specs.declared.Space.{Space}
 use Rattle.show.specs.Answers.{ofNumber}
 use Rattle.show.specs.declared.answer.Answer.{Answer}
 use Rattle.show.specs.declared.answer.Answer.the-variants.{At, Done, Refused}
 use Rattle.show.specs.declared.scene.Asked.{Asked}
-use Rattle.show.specs.declared.scene.Call.{Call}
-use Rattle.show.specs.declared.scene.Call.the-variants.{Allocate, Release, Extend, Shorten}
 use Rattle.show.specs.declared.scene.Scene.{Scene}
 use Rattle.show.specs.declared.scene.Told.{Told}
 
@@ -69,11 +69,14 @@ toldAs r w = record { answer = r .answer; state = r .space; words = w }
 abbrev pub leftAs : Answer → Outcome → Left
 leftAs accepted o = record { answer = ofNumber (o .refusal) accepted; state = o .state; words = o .words }
 
+abbrev pub acceptedAs : Call → ℕ → Answer
+acceptedAs (Allocate t s) a = At a
+acceptedAs (Release a z) n = Done
+acceptedAs (Extend a z m) n = Done
+acceptedAs (Shorten a z k) n = Done
+
 unfoldable pub leftBy : Call → Space → List ℕ → Left
-leftBy (Allocate t s) sp w = let p = allocated sp t s w in leftAs (At (p .address)) (p .outcome)
-leftBy (Release a z) sp w = leftAs Done (released sp a z w)
-leftBy (Extend a z m) sp w = leftAs Done (extended sp a z m w)
-leftBy (Shorten a z k) sp w = leftAs Done (shortened sp a z k w)
+leftBy c sp w = let a = answered c sp w in leftAs (acceptedAs c (a .answer)) (a .outcome)
 
 -- with these words, and with what a call leaves beside them
 abbrev pub askedAs : ℕ → List ℕ → Left → Asked

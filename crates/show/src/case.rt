@@ -10,11 +10,11 @@ use crate::answer::Answer;
 use crate::claim;
 use crate::claim::Tally;
 use crate::scene;
-use crate::scene::Call;
 use crate::scene::Scene;
 use crate::text::say;
 use crate::text::say_number;
 use crate::words;
+use call::Call;
 
 fn say_answer_and_end(a: Answer, end: u64) {
     answer::say_answer(a);

@@ -3,7 +3,7 @@
 ghost use Prim.Native.Nat.{_≤_};
 ghost use mathlib.Core.Path.{_≡_};
 ghost use Rattle.show.specs.Claims.{Tells};
-ghost use Rattle.show.specs.Scenes.{sceneWords, partOf, blankWords, withEntry, SameScene, toldAs, leftBy, askedOf, openedAs, openedByDefault};
+ghost use Rattle.show.specs.Scenes.{sceneWords, partOf, blankWords, withEntry, SameScene, toldAs, acceptedAs, leftBy, askedOf, openedAs, openedByDefault};
 use crate::answer;
 use crate::answer::Answer;
 use crate::entry;
@@ -11,14 +11,11 @@ use crate::text::say;
 use crate::text::say_nth;
 use crate::text::say_number;
 use crate::words;
+use call::Call;
 use pieces::ENTRY_WORDS;
 use pieces::Piece;
 use space::Space;
-use space::answers::address_of;
-use space::answers::allocate_number;
 use space::answers::open_number;
-use space::answers::release_number;
-use space::answers::resize_number;
 
 pub const ENTRIES: usize = 32;
 
@@ -28,14 +25,6 @@ pub struct Scene {
     pub space: Space,
     pub words: [u64; WORDS],
     pub len: usize,
-}
-
-// What a caller can ask of a space. A piece is named by address and size; what it is to gain or to lose comes last.
-pub enum Call {
-    Allocate(u64, u64),
-    Release(u64, u64),
-    Extend(u64, u64, u64),
-    Shorten(u64, u64, u64),
 }
 
 pub struct Told {
@@ -111,47 +100,27 @@ pub fn open_default() -> Asked
     }
 }
 
+// What an accepted call answers.
+fn accepted(call: Call, answer: u64) -> Answer
+    ensures { λ r. ⌜ r ≡ acceptedAs call answer ⌝ }
+{
+    match call {
+        Call::Allocate(_, _) => Answer::At(answer),
+        Call::Release(_, _) => Answer::Done,
+        Call::Extend(_, _, _) => Answer::Done,
+        Call::Shorten(_, _, _) => Answer::Done,
+    }
+}
+
 fn tell(space: Space, table: &mut [u64], call: Call) -> Told
     ensures { λ r. ⌜ toldAs r (now (table .exit)) ≡ leftBy call space (now (table .entry)) ⌝ }
 {
-    match call {
-        Call::Allocate(code, size) => {
-            let done = space.allocate(table, code, size);
-            let now = done.space;
-            let said = done.answer;
-            let placed = Answer::At(address_of(said));
-            Told {
-                space: now,
-                answer: answer::of_number(allocate_number(said), placed),
-            }
-        }
-        Call::Release(address, size) => {
-            let done = space.release(table, address, size);
-            let now = done.space;
-            let said = done.answer;
-            Told {
-                space: now,
-                answer: answer::of_number(release_number(said), Answer::Done),
-            }
-        }
-        Call::Extend(address, size, by) => {
-            let done = space.extend(table, address, size, by);
-            let now = done.space;
-            let said = done.answer;
-            Told {
-                space: now,
-                answer: answer::of_number(resize_number(said), Answer::Done),
-            }
-        }
-        Call::Shorten(address, size, by) => {
-            let done = space.shorten(table, address, size, by);
-            let now = done.space;
-            let said = done.answer;
-            Told {
-                space: now,
-                answer: answer::of_number(resize_number(said), Answer::Done),
-            }
-        }
+    let told = call::tell(space, table, call);
+    let now = told.space;
+    let done = accepted(call, told.answer);
+    Told {
+        space: now,
+        answer: answer::of_number(told.number, done),
     }
 }
 

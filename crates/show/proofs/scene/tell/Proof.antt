@@ -1,63 +1,20 @@
--- By the call: what the space said is what is left.
+-- `show::scene::tell` meets its contract: what the call left, with its answer as one of all calls.
 -- Assumes nothing.
 use mathlib.Core.Path.{ap}
-use Rattle.show.specs.Scenes.{leftAs, leftBy}
-use Rattle.space.specs.Placing.{Placed}
-use Rattle.show.specs.declared.answer.Answer.the-variants.{At, Done}
+use Rattle.call.specs.Answered.{Answered}
+use Rattle.show.specs.Scenes.{leftAs, acceptedAs, leftBy}
 use borrow.Author.Needs.{needs}
 use Rattle.show.proofs.scene.tell.Statement.{statement}
 use Rattle.show.proofs.scene.tell.Tie as tie
 
-enum-known-call : tie.Need-enum-known-call
-enum-known-call c = search needs
+tell-requires : tie.Need-tell-requires
+tell-requires c κs = search needs
 
-allocate-requires : tie.Need-allocate-requires
-allocate-requires c κs = search needs
-
-address-of-requires : tie.Need-address-of-requires
-address-of-requires c κs = search needs
-
-allocate-number-requires : tie.Need-allocate-number-requires
-allocate-number-requires c κs = search needs
+accepted-requires : tie.Need-accepted-requires
+accepted-requires c κs = search needs
 
 of-number-requires : tie.Need-of-number-requires
 of-number-requires c κs = search needs
-
-enum-known-call-2 : tie.Need-enum-known-call-2
-enum-known-call-2 c = search needs
-
-release-requires : tie.Need-release-requires
-release-requires c κs = search needs
-
-release-number-requires : tie.Need-release-number-requires
-release-number-requires c κs = search needs
-
-of-number-requires-2 : tie.Need-of-number-requires-2
-of-number-requires-2 c κs = search needs
-
-enum-known-call-3 : tie.Need-enum-known-call-3
-enum-known-call-3 c = search needs
-
-extend-requires : tie.Need-extend-requires
-extend-requires c κs = search needs
-
-resize-number-requires : tie.Need-resize-number-requires
-resize-number-requires c κs = search needs
-
-of-number-requires-3 : tie.Need-of-number-requires-3
-of-number-requires-3 c κs = search needs
-
-enum-known-call-4 : tie.Need-enum-known-call-4
-enum-known-call-4 c = search needs
-
-shorten-requires : tie.Need-shorten-requires
-shorten-requires c κs = search needs
-
-resize-number-requires-2 : tie.Need-resize-number-requires-2
-resize-number-requires-2 c κs = search needs
-
-of-number-requires-4 : tie.Need-of-number-requires-4
-of-number-requires-4 c κs = search needs
 
 same-length : tie.Need-same-length
 same-length c = search needs
@@ -65,63 +22,9 @@ same-length c = search needs
 returns : tie.Need-returns
 unfolding leftBy
 returns c =
-    let asked = c .before .before .before .before .before .before in
-    rw (asked .before .before .before .call .given .1, c .of-number .ensures, c .before .allocate-number .ensures, c .before .before .address-of .ensures)
-    (ap (λ (p : Placed). leftAs (At (p .address)) (p .outcome)) (asked .allocate .ensures))
-
-same-length-2 : tie.Need-same-length-2
-same-length-2 c = search needs
-
-returns-2 : tie.Need-returns-2
-unfolding leftBy
-returns-2 c =
-    let asked = c .before .before .before .before .before in
-    rw (asked .before .before .before .call2 .given .1, c .of-number2 .ensures, c .before .release-number .ensures) (ap (leftAs Done) (asked .release .ensures))
-
-same-length-3 : tie.Need-same-length-3
-same-length-3 c = search needs
-
-returns-3 : tie.Need-returns-3
-unfolding leftBy
-returns-3 c =
-    let asked = c .before .before .before .before .before in
-    rw (asked .before .before .before .call3 .given .1, c .of-number3 .ensures, c .before .resize-number .ensures) (ap (leftAs Done) (asked .extend .ensures))
-
-same-length-4 : tie.Need-same-length-4
-same-length-4 c = search needs
-
-returns-4 : tie.Need-returns-4
-unfolding leftBy
-returns-4 c =
-    let asked = c .before .before .before .before .before in
-    rw (asked .before .before .before .call4 .given .1, c .of-number4 .ensures, c .before .resize-number2 .ensures) (ap (leftAs Done) (asked .shorten .ensures))
+    let call = c .before .before .before .before .before .before .before .before .args .call in
+    rw (c .of-number .ensures, c .before .accepted .ensures) (ap (λ (a : Answered). leftAs (acceptedAs call (a .answer)) (a .outcome)) (c .before .before .before .before .before .tell .ensures))
 
 pub tell-spec : {M : Type 1} → statement M
 tell-spec =
-    tie.close
-    (tie.spec
-    enum-known-call
-    allocate-requires
-    address-of-requires
-    allocate-number-requires
-    of-number-requires
-    enum-known-call-2
-    release-requires
-    release-number-requires
-    of-number-requires-2
-    enum-known-call-3
-    extend-requires
-    resize-number-requires
-    of-number-requires-3
-    enum-known-call-4
-    shorten-requires
-    resize-number-requires-2
-    of-number-requires-4
-    same-length
-    returns
-    same-length-2
-    returns-2
-    same-length-3
-    returns-3
-    same-length-4
-    returns-4)
+    tie.close (tie.spec tell-requires accepted-requires of-number-requires same-length returns)

@@ -1,0 +1,2 @@
+-- What the contracts of `call` cite.
+pub mod Answered
