@@ -57,7 +57,7 @@ pub fn put_part(value: u64, out: &mut [u8], from: usize, to: usize)
 
 // ---- words. Their eight bytes stand one after the other here, and not in a loop, so that the compiler makes one load or store of them.
 
-fn wide(byte: u8) -> u64
+pub fn wide(byte: u8) -> u64
     ensures { λ r. ⌜ (r ≡ byte) × (r < byteValues) ⌝ }
 {
     byte as u64

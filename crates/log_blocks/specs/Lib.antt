@@ -1,0 +1,3 @@
+-- What the contracts of `log_blocks` cite.
+pub mod Records
+pub mod Blocks

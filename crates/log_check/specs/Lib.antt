@@ -1,0 +1,2 @@
+-- What the contracts of `log_check` cite.
+pub mod Check

@@ -1,0 +1,3 @@
+-- The laws that the proofs of this and of the higher crates cite.
+pub mod JudgeLaws
+pub mod CutLaws
