@@ -18,6 +18,13 @@ use Rattle.demands_with.proofs.Summaries.{refusals-with, exactly-with, keeps-wi
 use Rattle.demands_with.proofs.Tied.{tied}
 use Rattle.signed.specs.Signed.{Signed}
 use Rattle.literal.proofs.Statements.{allocating, releasing, extending, shortening}
+use Rattle.log_check.proofs.CheckLaws.{log-sums}
+use Rattle.log_promises.proofs.Blocks.{log-blocks}
+use Rattle.log_promises.proofs.Cut.{log-cut}
+use Rattle.log_promises.proofs.Judging.{log-damaged, log-differs, log-agrees}
+use Rattle.log_promises.proofs.Openings.{log-refused-open}
+use Rattle.log_promises.proofs.Recorded.{log-recorded}
+use Rattle.log_promises.proofs.TheLog.{log-of-the-run}
 use Rattle.message_promises.proofs.Promised.{lengths, read-exact, rest-exact, write-exact, acceptance, round-trip, one-meaning}
 use Rattle.table.proofs.Theorems.{determined, one-table}
 use Rattle.totals.proofs.Described.{summary-right, one-summary}
@@ -68,4 +75,13 @@ signed =
       area-runs = area-runs;
       area-any-order = area-any-order;
       one-area = one-area;
+      log-damaged = log-damaged;
+      log-differs = log-differs;
+      log-agrees = log-agrees;
+      log-refused-open = log-refused-open;
+      log-sums = log-sums;
+      log-blocks = log-blocks;
+      log-cut = log-cut;
+      log-recorded = log-recorded;
+      log-of-the-run = log-of-the-run;
     }

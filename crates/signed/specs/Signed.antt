@@ -4,13 +4,15 @@
 -- The statements: those on the calls in demands/specs/Demands.antt, those on the calls with a summary in demands_with/specs/Summaries.antt, those on
 -- tables in table/specs/Theorems.antt, on what a summary is in totals/specs/Described.antt, document 01's rules read literally in
 -- literal/specs/Statements.antt, those on the message in message_promises/specs/Promises.antt, those on the calls over an area of bytes in
--- area_promises/specs/Areas.antt.
+-- area_promises/specs/Areas.antt, those on a recorder's log in log_promises/specs/Logs.antt and log_check/specs/Check.antt.
 --
 -- Assumes nothing.
 use Rattle.area_promises.specs.Areas.{AreaBytes, AreaCalls, AreaRefused, AreaDone, AreaRuns, AreaAnyOrder, OneArea}
 use Rattle.demands.specs.Demands.{Refusals, Keeps, Edits, NewBytes, Placing, OneOfFive, Exactly, Listings, Runs, AnyOrder, TwoOrders, TheRun, OneResult}
 use Rattle.demands_with.specs.Summaries.{Tied, RefusalsWith, ExactlyWith, KeepsWith, RunsWith, AnyOrderWith, TwoOrdersWith, OneResultWith}
 use Rattle.literal.specs.Statements.{Allocating, Releasing, Extending, Shortening}
+use Rattle.log_check.specs.Check.{LogSums}
+use Rattle.log_promises.specs.Logs.{LogDamaged, LogDiffers, LogAgrees, LogRefusedOpen, LogBlocks, LogCut, LogRecorded, LogOfTheRun}
 use Rattle.message_promises.specs.Promises.{Lengths, ReadExact, RestExact, WriteExact, Acceptance, RoundTrip, OneMeaning}
 use Rattle.table.specs.Theorems.{Determined, OneTable}
 use Rattle.totals.specs.Described.{SummaryRight, OneSummary}
@@ -67,3 +69,13 @@ pub record Signed : Type 0 where
   pub area-runs : AreaRuns
   pub area-any-order : AreaAnyOrder
   pub one-area : OneArea
+  -- a recorder's log is judged as the request says, block after block; and the log of a run that was recorded agrees
+  pub log-damaged : LogDamaged
+  pub log-differs : LogDiffers
+  pub log-agrees : LogAgrees
+  pub log-refused-open : LogRefusedOpen
+  pub log-sums : LogSums
+  pub log-blocks : LogBlocks
+  pub log-cut : LogCut
+  pub log-recorded : LogRecorded
+  pub log-of-the-run : LogOfTheRun
