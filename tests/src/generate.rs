@@ -2,7 +2,7 @@
 //! table, and tables, states and summaries that are damaged in one place.
 //!
 //!   script     a script from a seed: calls on a space, on a wide table, on messages, or openings at the edges of their ranges
-//!   Sort       which of these a script has; `script_of` makes one of a sort
+//!   Sort       which of these a script has, or calls alone, so many; `script_of` makes one of a sort
 //!
 //! Every call on a space is followed by `show words` and `show summary`; those that fill a wide table by the summary alone. Where a state or
 //! a table is set by hand, the summary of before would be refused whatever they are: it is mostly set to that of the entries, or worked out
@@ -52,6 +52,8 @@ pub enum Sort {
     Openings,
     Messages,
     Space,
+    /// An opening and calls, so many together, and looks at the table between them.
+    Calls(u64),
 }
 
 pub fn script(draw: &mut Draw) -> Vec<String> {
@@ -71,6 +73,7 @@ pub fn script_of(sort: Sort, draw: &mut Draw) -> Vec<String> {
         Sort::Openings => author.openings(),
         Sort::Messages => author.messages(),
         Sort::Space => author.space(),
+        Sort::Calls(count) => author.calls(count),
     }
     author.lines
 }
@@ -110,6 +113,18 @@ impl Author<'_> {
                 11 => self.wrong_line(),
                 12..=16 => self.damaged_summary(),
                 _ => self.any_call(),
+            }
+        }
+    }
+
+    fn calls(&mut self, count: u64) {
+        self.open();
+        for _ in 1..count {
+            match self.draw.below(10) {
+                0..=4 => self.allocate(),
+                5 | 6 => self.release(),
+                7 | 8 => self.extend(),
+                _ => self.shorten(),
             }
         }
     }

@@ -5,6 +5,8 @@
 //!   show_words, show_summary, fresh   lines that show every word, show every number of the summary, and work it out afresh
 //!   read_line, write_line   lines that read a message out of lent bytes, and write one into a room
 //!   six        six numbers, as the addresses of small or of large managers
+//!   number, numbers, code, narrow, exactly   what the words of a line say, or what is wrong with them
+//!   TYPES      the words for the types of an allocation
 //!
 //! Not here: `table`, `map` and `sheet`, whose answers are pictures for a person.
 
@@ -16,6 +18,7 @@ pub const LONGEST_LINE: usize = 100_000;
 pub const MOST_ENTRIES: u64 = 2_048;
 pub const MOST_WORDS: usize = MOST_ENTRIES as usize * ENTRY_WORDS;
 pub const MOST_ROOM: u64 = 4_096;
+pub const TYPES: [&str; 2] = ["metadata", "raw"];
 const LENT_BYTE: u8 = 0xaa;
 
 #[derive(Clone, Debug, Default)]
@@ -25,9 +28,9 @@ pub struct Machine {
 }
 
 /// What is wrong with a line.
-type Wrong = &'static str;
+pub type Wrong = &'static str;
 
-const NO_CALL: Wrong = "no call";
+pub const NO_CALL: Wrong = "no call";
 const NOT_A_NUMBER: Wrong = "not a number";
 const NUMBER_TOO_LARGE: Wrong = "number too large";
 const WRONG_COUNT: Wrong = "wrong count of words";
@@ -35,14 +38,14 @@ const TOO_LONG: Wrong = "too long";
 const TOO_MANY: Wrong = "too many";
 const NOT_HEX: Wrong = "not hex";
 
-fn number(word: &str) -> Result<u64, Wrong> {
+pub fn number(word: &str) -> Result<u64, Wrong> {
     if word.is_empty() || !word.bytes().all(|b| b.is_ascii_digit()) {
         return Err(NOT_A_NUMBER);
     }
     word.parse().map_err(|_| NUMBER_TOO_LARGE)
 }
 
-fn numbers(words: &[&str]) -> Result<Vec<u64>, Wrong> {
+pub fn numbers(words: &[&str]) -> Result<Vec<u64>, Wrong> {
     words.iter().map(|w| number(w)).collect()
 }
 
@@ -56,18 +59,18 @@ fn signed(word: &str) -> Result<i64, Wrong> {
 }
 
 /// A number, or a word that stands for one: the first name for 1, the second for 2, and so on.
-fn code(word: &str, names: &[&str]) -> Result<u64, Wrong> {
+pub fn code(word: &str, names: &[&str]) -> Result<u64, Wrong> {
     match names.iter().position(|name| *name == word) {
         Some(i) => Ok(i as u64 + 1),
         None => number(word),
     }
 }
 
-fn narrow<T: TryFrom<u64>>(number: u64) -> Result<T, Wrong> {
+pub fn narrow<T: TryFrom<u64>>(number: u64) -> Result<T, Wrong> {
     T::try_from(number).map_err(|_| NUMBER_TOO_LARGE)
 }
 
-fn exactly(count: usize, words: &[&str]) -> Result<(), Wrong> {
+pub fn exactly(count: usize, words: &[&str]) -> Result<(), Wrong> {
     if words.len() == count { Ok(()) } else { Err(WRONG_COUNT) }
 }
 
@@ -215,7 +218,7 @@ impl Machine {
 
     fn allocate(&mut self, words: &[&str]) -> Result<String, Wrong> {
         exactly(2, words)?;
-        let kind = code(words[0], &["metadata", "raw"])?;
+        let kind = code(words[0], &TYPES)?;
         let size = number(words[1])?;
         let said = match self.model.allocate(kind, size) {
             Ok(at) => format!("at {at}"),
