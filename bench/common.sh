@@ -1,4 +1,4 @@
-# What bench/run and bench/names share, for them to source: the programs, and what is measured of one run.
+# What the programs of this folder share, for them to source: the programs that they run, and what is measured of one run.
 #
 #   counting       whether --count is the first option; it is taken away then
 #   ours, plain    the proved program, as `rt check bench` builds it or BENCH names it, and the plain C version
@@ -18,10 +18,10 @@ TIMEFORMAT=%U
 must_be_there() { # FILE COMMAND
     [ -f "$1" ] || { echo "bench/$(basename "$0"): there is no $1: build it by '$2'" >&2; exit 2; }
 }
-must_be_there "$ours" 'rt check bench'
 
-# The plain C version, and what counts instructions if that is asked for.
+# The proved program is there; the plain C version, and what counts instructions if that is asked for.
 compile() {
+    must_be_there "$ours" 'rt check bench'
     mkdir -p "$made"
     compile_c space
     if $counting; then compile_counter; fi
