@@ -48,12 +48,12 @@ pub fn read(area: &[u8], table: &mut [u64]) -> Space
     requires { ⌜ AreaFits (now area) (now table) ⌝ }
     ensures { λ r. ⌜ (r ≡ stateIn (now (area .entry))) × (now (table .exit) ≡ wordsIn (now (area .entry))) ⌝ }
 {
-    little::get_words(&area[TABLE_AT..], table);
+    words::get_words(&area[TABLE_AT..], table);
     Space {
-        page: little::get_word(&area[PAGE_AT..LIMIT_AT]),
-        limit: little::get_word(&area[LIMIT_AT..END_AT]),
-        end: little::get_word(&area[END_AT..COUNT_AT]),
-        count: little::get_word(&area[COUNT_AT..TABLE_AT]),
+        page: words::get_word(&area[PAGE_AT..LIMIT_AT]),
+        limit: words::get_word(&area[LIMIT_AT..END_AT]),
+        end: words::get_word(&area[END_AT..COUNT_AT]),
+        count: words::get_word(&area[COUNT_AT..TABLE_AT]),
     }
 }
 
@@ -62,10 +62,10 @@ pub fn put_state(space: Space, area: &mut [u8])
     requires { ⌜ tableAt ≤ length (now area) ⌝ }
     ensures { λ _. ⌜ now (area .exit) ≡ laid 0 tableAt (headOf space) (now (area .entry)) ⌝ }
 {
-    little::put_word(space.page, &mut area[PAGE_AT..LIMIT_AT]);
-    little::put_word(space.limit, &mut area[LIMIT_AT..END_AT]);
-    little::put_word(space.end, &mut area[END_AT..COUNT_AT]);
-    little::put_word(space.count, &mut area[COUNT_AT..TABLE_AT]);
+    words::put_word(space.page, &mut area[PAGE_AT..LIMIT_AT]);
+    words::put_word(space.limit, &mut area[LIMIT_AT..END_AT]);
+    words::put_word(space.end, &mut area[END_AT..COUNT_AT]);
+    words::put_word(space.count, &mut area[COUNT_AT..TABLE_AT]);
 }
 
 // Puts the state and the whole table.
@@ -74,7 +74,7 @@ pub fn write(space: Space, table: &[u64], area: &mut [u8])
     ensures { λ _. ⌜ now (area .exit) ≡ areaOf space (now (table .entry)) ⌝ }
 {
     put_state(space, area);
-    little::put_words(table, &mut area[TABLE_AT..]);
+    words::put_words(table, &mut area[TABLE_AT..]);
 }
 
 // Puts the entries of the table from one up to another in their place.
@@ -84,7 +84,7 @@ pub fn put_entries(table: &[u64], from: usize, to: usize, area: &mut [u8])
         ≡ laid (tableAt + from * entryBytes) (tableAt + to * entryBytes) (bytesOfAll wordBytes (part (from * entryWords) (to * entryWords) (now (table .entry)))) (now (area .entry)) ⌝ }
 {
     let part = &table[from * ENTRY_WORDS..to * ENTRY_WORDS];
-    little::put_words(
+    words::put_words(
         part,
         &mut area[TABLE_AT + from * ENTRY_BYTES..TABLE_AT + to * ENTRY_BYTES],
     );

@@ -4,8 +4,8 @@ ghost use lib.ListN.{length};
 ghost use Rattle.log_blocks.specs.Records.{recordBytes, recordIn, operationb, zerosb, recordb};
 use little::WORD_BYTES;
 use little::get_part;
-use little::get_word;
 use little::wide;
+use words::get_word;
 
 // Where the fields of a record start; the operation starts it.
 const CODE_AT: usize = 1;

@@ -30,7 +30,7 @@ fn addresses(part: &[u8]) -> [u64; TYPES]
     ensures { λ r. ⌜ r ≡ addressesOf (now (part .entry)) ⌝ }
 {
     let mut found = [0u64; TYPES];
-    little::get_words(part, &mut found);
+    words::get_words(part, &mut found);
     found
 }
 
@@ -72,7 +72,7 @@ fn put_addresses(addresses: [u64; TYPES], part: &mut [u8])
     requires { ⌜ length (now part) ≡ addressesLength ⌝ }
     ensures { λ _. ⌜ now (part .exit) ≡ bytesOfAll addressWidth addresses ⌝ }
 {
-    little::put_words(&addresses, part);
+    words::put_words(&addresses, part);
 }
 
 // Writes the fields that stand before the addresses.

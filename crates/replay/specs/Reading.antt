@@ -1,8 +1,6 @@
 -- What `replay` carries from read to read.
 --
 --   bufferBytes     the bytes of the buffer: whole blocks
---   lineBytes       the most bytes of the line that is said
---   labelBytes      the most bytes of its first word, with the blank behind it
 --   Carried r       the judge fits, and the buffer has room
 --   Within r n m    what was read behind n bytes is within m
 --
@@ -16,12 +14,6 @@ use Rattle.replay.specs.declared.Reading.{Reading}
 
 abbrev pub bufferBytes : ℕ
 bufferBytes = 128 * blockBytes
-
-abbrev pub lineBytes : ℕ
-lineBytes = 64
-
-abbrev pub labelBytes : ℕ
-labelBytes = 8
 
 pub record Carried (r : Reading) : Type 0 where
   pub fits : Fits (r .judge)

@@ -1,13 +1,10 @@
 // `replay` reads a recorder's log from standard input to its end, whatever its length, and says in one line how it is judged. It is thin: the
 // judgement is that of `log_judge`, of which a buffer of whole blocks is given at a time. What is read and written, nothing can promise.
 ghost use mathlib.Core.Path.{_≡_};
-ghost use Prim.Native.Nat.{_+_, _≤_};
+ghost use Prim.Native.Nat.{_≤_};
 ghost use lib.ListN.{length};
-ghost use Rattle.figures.specs.Laid.{numberBytes};
 ghost use Rattle.log_play.specs.Lent.{Lent};
-ghost use Rattle.replay.specs.Reading.{bufferBytes, lineBytes, labelBytes, Carried, Within};
-use figures::text::lay;
-use figures::text::lay_number;
+ghost use Rattle.replay.specs.Reading.{bufferBytes, Carried, Within};
 use libc::STDIN_FILENO;
 use libc::STDOUT_FILENO;
 use log_check::BLOCK_BYTES;
@@ -16,8 +13,6 @@ use log_judge::TABLE_WORDS;
 use log_judge::Verdict;
 
 const BUFFER_BYTES: usize = 128 * BLOCK_BYTES;
-
-const LINE_BYTES: usize = 64;
 
 // What is carried from read to read: the judge of what was read before the buffer was emptied last, how many bytes are in the buffer since then, and
 // whether the input is over, or could not be read.
@@ -107,36 +102,23 @@ fn turn(
     }
 }
 
-// A label and a number, from the start of a line: where they end.
-fn lay_first(line: &mut [u8], label: &[u8], number: u64) -> usize
-    requires { ⌜ (length (now line) ≡ lineBytes) × (length (now label) ≤ labelBytes) ⌝ }
-    ensures { λ r. ⌜ r ≤ labelBytes + numberBytes ⌝ }
-{
-    let at = lay(line, 0, label);
-    lay_number(line, at, number)
+// A label and a number.
+fn say(label: &[u8], number: u64) {
+    io::write_all(STDOUT_FILENO, label);
+    io::print_decimal(STDOUT_FILENO, number);
 }
 
-// The line of a judgement: where it ends.
-fn lay_verdict(line: &mut [u8], verdict: Verdict) -> usize
-    requires { ⌜ length (now line) ≡ lineBytes ⌝ }
-    ensures { λ r. ⌜ r ≤ lineBytes ⌝ }
-{
+// The line of a judgement.
+fn say_verdict(verdict: Verdict) {
     match verdict {
         Verdict::Agrees(records, end) => {
-            let at = lay_first(line, b"agrees ", records);
-            let at = lay(line, at, b" ");
-            let at = lay_number(line, at, end);
-            lay(line, at, b"\n")
+            say(b"agrees ", records);
+            say(b" ", end);
         }
-        Verdict::Differs(record) => {
-            let at = lay_first(line, b"differs ", record);
-            lay(line, at, b"\n")
-        }
-        Verdict::Damaged(block) => {
-            let at = lay_first(line, b"damaged ", block);
-            lay(line, at, b"\n")
-        }
+        Verdict::Differs(record) => say(b"differs ", record),
+        Verdict::Damaged(block) => say(b"damaged ", block),
     }
+    io::write_all(STDOUT_FILENO, b"\n");
 }
 
 // What is left in the buffer is judged.
@@ -146,17 +128,6 @@ fn judge_rest(reading: Reading, buffer: &[u8], table: &mut [u64]) -> Verdict
     let filled = reading.filled;
     let judge = log_judge::next_blocks(reading.judge, &buffer[..filled], table);
     log_judge::conclude(judge)
-}
-
-// The input is over: the line is said.
-fn tell(reading: Reading, buffer: &mut [u8; BUFFER_BYTES], table: &mut [u64; TABLE_WORDS])
-    requires { ⌜ Carried reading ⌝ }
-{
-    let mut line = [0u8; LINE_BYTES];
-    let end = lay_verdict(&mut line, judge_rest(reading, buffer, table));
-    if !io::write_all(STDOUT_FILENO, &line[..end]) {
-        os::fail(b"replay: standard output");
-    }
 }
 
 // A proved loop has to end, and nothing says that the input does. So the loop counts its turns down, from a number that no run uses up. Of a log that
@@ -169,7 +140,7 @@ fn turns(buffer: &mut [u8; BUFFER_BYTES], table: &mut [u64; TABLE_WORDS]) {
         left -= 1;
     }
     if reading.is_over {
-        tell(reading, buffer, table);
+        say_verdict(judge_rest(reading, buffer, table));
     } else {
         os::fail(b"replay: standard input");
     }

@@ -29,8 +29,11 @@ loop-less c = search needs
 loop-again : tie.Need-loop-again Inv-loop μ-loop
 loop-again c = search needs
 
-tell-requires : tie.Need-tell-requires Inv-loop μ-loop
-tell-requires c κs = search needs
+judge-rest-requires : tie.Need-judge-rest-requires Inv-loop μ-loop
+judge-rest-requires c κs = search needs
+
+say-verdict-requires : tie.Need-say-verdict-requires Inv-loop μ-loop
+say-verdict-requires c κs = search needs
 
 slice-aggregate-fail : tie.Need-slice-aggregate-fail Inv-loop μ-loop
 slice-aggregate-fail c = search needs
@@ -56,7 +59,8 @@ turns-spec =
     sub-left
     loop-less
     loop-again
-    tell-requires
+    judge-rest-requires
+    say-verdict-requires
     slice-aggregate-fail
     fail-requires
     returns

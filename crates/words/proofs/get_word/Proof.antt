@@ -1,8 +1,8 @@
--- `little::get_word` meets its contract: the sum of its eight bytes, each times its place's value, is the number that they are. Assumes nothing.
+-- `words::get_word` meets its contract: the sum of its eight bytes, each times its place's value, is the number that they are. Assumes nothing.
 use Rattle.little.proofs.LittleLaws.{little-word}
 use borrow.Author.Needs.{needs}
-use Rattle.little.proofs.get_word.Statement.{statement}
-use Rattle.little.proofs.get_word.Tie as tie
+use Rattle.words.proofs.get_word.Statement.{statement}
+use Rattle.words.proofs.get_word.Tie as tie
 
 shared-slice-read-wide : tie.Need-shared-slice-read-wide
 shared-slice-read-wide c = search needs

@@ -1,9 +1,9 @@
--- `little::put_word` meets its contract: eight bytes laid one after the other are the bytes of the word. Assumes nothing.
+-- `words::put_word` meets its contract: eight bytes laid one after the other are the bytes of the word. Assumes nothing.
 use lib.ListN.{length-set}
 use Rattle.little.proofs.LittleLaws.{stored, stored-is}
 use borrow.Author.Needs.{needs}
-use Rattle.little.proofs.put_word.Statement.{statement}
-use Rattle.little.proofs.put_word.Tie as tie
+use Rattle.words.proofs.put_word.Statement.{statement}
+use Rattle.words.proofs.put_word.Tie as tie
 
 cast-out : tie.Need-cast-out
 cast-out c = search needs

@@ -1,12 +1,12 @@
--- `little::put_words` meets its contract: the words passed are laid at the front, one behind the other. Assumes nothing.
+-- `words::put_words` meets its contract: the words passed are laid at the front, one behind the other. Assumes nothing.
 use Prim.Native.Nat.{_≤_, _+_, _-_, _*_}
 use mathlib.Core.Path.{_≡_, refl}
 use lib.ListN.{length, take}
 use borrow.Author.Needs.{needs}
 use Rattle.little.proofs.LittleLaws.{Laid, laid-back, bytesOfAll-none, bytesOfAll-up, bytesOfAll-end}
 use Rattle.little.specs.Little.{wordBytes, bytesOfAll}
-use Rattle.little.proofs.put_words.Statement.{statement}
-use Rattle.little.proofs.put_words.Tie as tie
+use Rattle.words.proofs.put_words.Statement.{statement}
+use Rattle.words.proofs.put_words.Tie as tie
 
 abbrev Inv-loop : tie.InvT-loop
 Inv-loop words out₀ i₀ out i =

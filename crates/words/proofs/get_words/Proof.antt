@@ -1,14 +1,14 @@
--- `little::get_words` meets its contract: the words found so far are the first ones of the bytes, and behind the last two one is left at most.
+-- `words::get_words` meets its contract: the words found so far are the first ones of the bytes, and behind the last two one is left at most.
 -- Assumes nothing.
 use Prim.Native.Nat.{_≤_, _+_, _-_, _*_}
 use mathlib.Core.Path.{_≡_, refl}
 use native.Mathlib.Omega.{arith}
 use lib.ListN.{length, take, set, length-set}
 use borrow.Author.Needs.{needs}
 use Rattle.little.proofs.LittleLaws.{numbers-up, numbers-end}
 use Rattle.little.specs.Little.{wordBytes, numbers}
-use Rattle.little.proofs.get_words.Statement.{statement}
-use Rattle.little.proofs.get_words.Tie as tie
+use Rattle.words.proofs.get_words.Statement.{statement}
+use Rattle.words.proofs.get_words.Tie as tie
 
 abbrev Inv-loop : tie.InvT-loop
 Inv-loop bytes words₀ pairs k₀ words k =
