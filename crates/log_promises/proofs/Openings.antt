@@ -12,19 +12,18 @@
 --
 -- Assumes nothing.
 use Prim.Native.Nat.{ℕ, _*_, _≤_}
-use mathlib.Core.Bool.{Bool, true, false, cond, _&&_}
+use mathlib.Core.Bool.{Bool, true, false}
 use mathlib.Core.List.{List}
 use mathlib.Core.Path.{_≡_, refl, sym, ap, _∙_}
 use native.Mathlib.Omega.{arith}
-use lib.Dec.{leb}
 use lib.ListN.{length, replicate, length-replicate}
-use borrow.Author.Tests.{leb-true, le-leb}
 use Rattle.call.specs.Answered.{answered}
 use Rattle.call.specs.declared.Call.{Call}
 use Rattle.call.specs.declared.Call.the-variants.{Allocate, Release, Extend, Shorten}
+use Rattle.log_play.proofs.PlayLaws.{words-few, words-many, words-some}
 use Rattle.log_play.specs.Playing.{wordsFor}
 use Rattle.log_promises.specs.Logs.{LogRefusedOpen}
-use Rattle.pages.proofs.Numbers.{split, and-left, and-right}
+use Rattle.pages.proofs.Numbers.{split}
 use Rattle.pieces.specs.Words.{entryWords}
 use Rattle.refusals.specs.AnswerNumbers.{outOfRange, notSound, noAddress}
 use Rattle.space.proofs.GiveLaws.{released-unsound, resized-unsound}
@@ -44,16 +43,11 @@ abbrev Outside : ℕ → Type 0
 Outside C = leastCapacity ≤ C → C ≤ largestCapacity → ⊥
 
 words-in : (C : ℕ) → leastCapacity ≤ C → C ≤ largestCapacity → wordsFor C ≡ C * entryWords
-unfolding wordsFor
-words-in C l m = rw (le-leb leastCapacity C l, le-leb C largestCapacity m)
+words-in C l m = sym (words-some C l m)
 
 words-out : (C : ℕ) → Outside C → wordsFor C ≡ 0
-unfolding wordsFor
-words-out C out = go (leb leastCapacity C && leb C largestCapacity) refl
-  where
-    go : (t : Bool) → (leb leastCapacity C && leb C largestCapacity) ≡ t → cond t (C * entryWords) 0 ≡ 0
-    go true e = absurd (out (leb-true _ _ (and-left _ _ e)) (leb-true _ _ (and-right (leb leastCapacity C) _ e)))
-    go false e = refl
+words-out C out =
+    split leastCapacity C (λ l. split C largestCapacity (λ m. absurd (out l m)) (λ h. sym (words-many C h))) (λ h. sym (words-few C h))
 
 ranges-out : (C P M : ℕ) → Outside C → rangesb P M 0 0 (C * entryWords) ≡ false
 ranges-out C P M out = go (rangesb P M 0 0 (C * entryWords)) refl
