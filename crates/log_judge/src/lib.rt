@@ -194,9 +194,10 @@ pub fn next_blocks(judge: Judge, part: &[u8], table: &mut [u64]) -> Judge
     carried
 }
 
-// A whole log.
-pub fn judge_log(log: &[u8], table: &mut [u64; TABLE_WORDS]) -> Verdict
+// A whole log, over a table of its own.
+pub fn judge_log(log: &[u8]) -> Verdict
     ensures { λ r. ⌜ r ≡ judged (blocksOf (now (log .entry))) ⌝ }
 {
-    conclude(next_blocks(start(), log, table))
+    let mut table = [0u64; TABLE_WORDS];
+    conclude(next_blocks(start(), log, &mut table))
 }
