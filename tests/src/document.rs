@@ -5,8 +5,8 @@
 //!   script_of  a claim's calls, as a script
 //!   WORDS_OF_STEP_5, AFTER_STEP_5   the line that sets the table after step 5 of the document's run, and the answer that shows it
 //!
-//! `show words` is asked where the document states the table. Where a name is refused, the number is request E3's. Not here: the sentences of the
-//! requests (request_e2.rs, request_e3.rs).
+//! `show words` is asked where the document states the table. Where a name is refused, the number is request E3's, and the default page size is
+//! request E7's. Not here: the sentences of the requests (request_e2.rs, request_e3.rs).
 
 /// A sentence of a document, and calls that show it: a call with its answer.
 pub struct Claim {
@@ -132,13 +132,15 @@ pub const CLAIMS: &[Claim] = &[
         ],
     },
     Claim {
-        says: "the default opening has P = 4,096 and M = 2^62",
+        says: "the default opening has P = 65,536 and M = 2^62",
         calls: &[
             ("default 12", "done; end 0; 0 entries"),
             ("allocate raw 4611686018427387904", "at 0; end 4611686018427387904; 1 entries"),
             ("allocate raw 1", "refused 5; end 4611686018427387904; 1 entries"),
             ("default 12", "done; end 0; 0 entries"),
-            ("allocate raw 4095", "at 0; end 4096; 2 entries"),
+            ("allocate raw 1", "at 0; end 65536; 2 entries"),
+            ("allocate raw 65535", "at 1; end 65536; 2 entries"),
+            ("allocate raw 65536", "at 65536; end 131072; 3 entries"),
         ],
     },
     Claim {

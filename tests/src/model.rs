@@ -1,13 +1,13 @@
-//! Document 01's rules for a space, with request E2's summary and request E3's refusals, read literally: each rule stands beside the sentence
-//! that decides it.
+//! Document 01's rules for a space, with request E2's summary, request E3's refusals and request E7's default, read literally: each rule stands
+//! beside the sentence that decides it.
 //!
 //!   State      the four numbers P, M, E, n
 //!   Entry      a piece with its kind, one of the six
-//!   Slip       one of the errors that document 01 says a builder will be drawn to, a refusal that writes, an error in the summary, or one in
-//!              what is wrong with a name or in the way to it; `Slip::None` is the model
+//!   Slip       one of the errors that document 01 says a builder will be drawn to, a refusal that writes, an error in the summary, one in
+//!              what is wrong with a name or in the way to it, or the default page size of before request E7; `Slip::None` is the model
 //!   is_sound   whether a state and a table keep every rule of a sound table
-//!   Model      a state over a lent table of words with a lent summary, and the calls `open`, `allocate`, `release`, `extend`, `shorten`,
-//!              `list`, `fresh`
+//!   Model      a state over a lent table of words with a lent summary, and the calls `open`, `open_default`, `allocate`, `release`, `extend`,
+//!              `shorten`, `list`, `fresh`
 //!   Draft      the entries and the E that a call would leave; a refused call drops its draft, so it changes nothing
 //!
 //! What is document 01's was written from it, and from decisions handed to the writer where it leaves a corner open; the library and its specs
@@ -21,7 +21,7 @@ use crate::summary::{Summary, Totals};
 pub const LEAST_PAGE: u64 = 512;
 pub const LARGEST_PAGE: u64 = 1 << 30;
 pub const LARGEST_LIMIT: u64 = 1 << 62;
-pub const DEFAULT_PAGE: u64 = 4096;
+pub const DEFAULT_PAGE: u64 = 65_536;
 pub const DEFAULT_LIMIT: u64 = LARGEST_LIMIT;
 pub const ENTRY_WORDS: usize = 3;
 const LEAST_TABLE: usize = 4 * ENTRY_WORDS;
@@ -107,10 +107,11 @@ pub enum Slip {
     BeyondTheEndAByteLate,
     HalfPassesOverAnEntry,
     HalfLeavesOutTheLastEntry,
+    DefaultPageAsBefore,
 }
 
 /// Every slip with the name by which `model_filespace` takes it.
-pub const SLIPS: [(&str, Slip); 22] = [
+pub const SLIPS: [(&str, Slip); 23] = [
     ("first-fit", Slip::FirstFit),
     ("small-in-a-misaligned-rest", Slip::SmallInAMisalignedRest),
     ("merged-over-a-border", Slip::MergedOverABorder),
@@ -133,6 +134,7 @@ pub const SLIPS: [(&str, Slip); 22] = [
     ("beyond-the-end-a-byte-late", Slip::BeyondTheEndAByteLate),
     ("half-passes-over-an-entry", Slip::HalfPassesOverAnEntry),
     ("half-leaves-out-the-last-entry", Slip::HalfLeavesOutTheLastEntry),
+    ("default-page-as-before", Slip::DefaultPageAsBefore),
 ];
 
 /// The code of the manager for large pieces; `METADATA` and `RAW` are those of the small ones.
@@ -295,6 +297,12 @@ impl Model {
         self.table.fill(0);
         self.summary = Summary { totals: Totals { counts: kept, ..Totals::default() }, moved: 0 };
         Ok(())
+    }
+
+    /// "The default opening becomes P = 65,536, M as before." (Request E7.)
+    pub fn open_default(&mut self) -> Result<(), Refusal> {
+        let page = if self.slip == Slip::DefaultPageAsBefore { 4_096 } else { DEFAULT_PAGE };
+        self.open(page, DEFAULT_LIMIT)
     }
 
     /// "A request names metadata (1) or raw (2) and a size s." Answers the piece's address. "Order: allocate 2, 3, 4, 5, 6."

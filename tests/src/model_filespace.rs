@@ -2,8 +2,8 @@
 //!
 //!   model_filespace [SLIP]
 //!
-//! SLIP names one of the errors that document 01 warns of, one in the summary, or one in what is wrong with a name or in the way to it
-//! (`model::SLIPS`), so that it can be seen that the runner finds it.
+//! SLIP names one of the errors that document 01 warns of, one in the summary, one in what is wrong with a name or in the way to it, or the
+//! default page size of before request E7 (`model::SLIPS`), so that it can be seen that the runner finds it.
 
 use difftest::model::{Model, Slip, SLIPS};
 use difftest::script::Machine;

@@ -11,7 +11,7 @@
 //! Not here: `table`, `map` and `sheet`, whose answers are pictures for a person.
 
 use crate::message::{self, Fields};
-use crate::model::{Model, Refusal, State, DEFAULT_LIMIT, DEFAULT_PAGE, ENTRY_WORDS};
+use crate::model::{Model, Refusal, State, ENTRY_WORDS};
 use crate::summary::{Summary, Totals, MOVED, TOTALS};
 
 pub const LONGEST_LINE: usize = 100_000;
@@ -199,21 +199,22 @@ impl Machine {
         self.with_state(told(result))
     }
 
-    fn open_with(&mut self, page: u64, limit: u64, entries: u64) -> Result<String, Wrong> {
+    /// An opening over a new table of so many entries.
+    fn opened(&mut self, entries: u64, opening: impl Fn(&mut Model) -> Result<(), Refusal>) -> Result<String, Wrong> {
         self.model.table = vec![0; at_most(MOST_ENTRIES, entries)? * ENTRY_WORDS];
-        let result = self.model.open(page, limit);
+        let result = opening(&mut self.model);
         Ok(self.done(result))
     }
 
     fn open(&mut self, words: &[&str]) -> Result<String, Wrong> {
         exactly(3, words)?;
         let n = numbers(words)?;
-        self.open_with(n[0], n[1], n[2])
+        self.opened(n[2], |model| model.open(n[0], n[1]))
     }
 
     fn open_default(&mut self, words: &[&str]) -> Result<String, Wrong> {
         exactly(1, words)?;
-        self.open_with(DEFAULT_PAGE, DEFAULT_LIMIT, number(words[0])?)
+        self.opened(number(words[0])?, Model::open_default)
     }
 
     fn allocate(&mut self, words: &[&str]) -> Result<String, Wrong> {

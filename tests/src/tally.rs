@@ -58,10 +58,11 @@ pub struct Met {
 /// By what a call met, and by its answer.
 type IsMet = fn(&Met, &str) -> bool;
 
-pub const SITUATIONS: [(&str, IsMet); 29] = [
+pub const SITUATIONS: [(&str, IsMet); 30] = [
     ("P = 512", |m, a| is_past_2(a) && m.page == 512),
     ("P = 1,000", |m, a| is_past_2(a) && m.page == 1_000),
     ("P = 4,096", |m, a| is_past_2(a) && m.page == 4_096),
+    ("P = 65,536", |m, a| is_past_2(a) && m.page == 65_536),
     ("P = 2^30", |m, a| is_past_2(a) && m.page == LARGEST_PAGE),
     ("C = 4", |m, a| is_past_2(a) && m.capacity == 4),
     ("C = 4, all taken", |m, a| is_past_2(a) && m.capacity == 4 && m.count == 4),

@@ -1,8 +1,9 @@
 //! The tests of the tests: the runner finds nothing between the model and itself, and finds each of document 01's errors, each error in a
-//! summary, each in what is wrong with a name and in the way to it, by random scripts alone, shrunk to few lines. Those in a name it finds by
-//! request E3's claims alone and by the sweep of names alone, too; those in the way to it by the sweep of counts alone.
+//! summary, each in what is wrong with a name and in the way to it, and another default, by random scripts alone, shrunk to few lines. Those in a
+//! name it finds by request E3's claims alone and by the sweep of names alone, too; those in the way to it by the sweep of counts alone; another
+//! default by document 01's claims alone.
 
-use difftest::document::script_of;
+use difftest::document::{self, script_of, Claim};
 use difftest::draw::Draw;
 use difftest::generate::script;
 use difftest::model::SLIPS;
@@ -23,6 +24,13 @@ const BY_HALVES: [&str; 2] = ["half-passes-over-an-entry", "half-leaves-out-the-
 /// The model with a slip.
 fn wrong_model(slip: &str) -> Program {
     Program { command: vec![MODEL.to_string(), slip.to_string()] }
+}
+
+/// What the claims state, the model with a slip does not answer.
+fn claims_find(claims: &[Claim], slip: &str) -> bool {
+    let lines: Vec<String> = claims.iter().flat_map(script_of).collect();
+    let stated: Vec<_> = claims.iter().flat_map(|claim| claim.calls).map(|(_, answer)| Some(answer.to_string())).collect();
+    first_difference(&wrong_model(slip), &lines, &stated).is_some()
 }
 
 /// Twenty random scripts, the same ones in every run of the tests.
@@ -60,11 +68,14 @@ fn random_scripts_find_every_slip_and_shrink_to_few_lines() {
 
 #[test]
 fn the_claims_of_request_e3_find_every_slip_in_a_name() {
-    let lines: Vec<String> = request_e3::CLAIMS.iter().flat_map(script_of).collect();
-    let stated: Vec<_> = request_e3::CLAIMS.iter().flat_map(|claim| claim.calls).map(|(_, answer)| Some(answer.to_string())).collect();
     for name in OF_A_NAME {
-        assert!(first_difference(&wrong_model(name), &lines, &stated).is_some(), "{name} was not found");
+        assert!(claims_find(request_e3::CLAIMS, name), "{name} was not found");
     }
+}
+
+#[test]
+fn the_claims_of_the_document_find_another_default() {
+    assert!(claims_find(document::CLAIMS, "default-page-as-before"));
 }
 
 #[test]

@@ -171,10 +171,10 @@ fn lengths(t: Tally) -> Tally {
 }
 
 fn by_default(t: Tally) -> Tally {
-    let c: &[u8] = b"the default opening has P = 4096 and M = 2^62";
+    let c: &[u8] = b"the default opening has P = 65536 and M = 2^62";
     let opened = scene::open_default();
     let found = opened.scene;
-    let given = scene::open(4096, LARGEST_LIMIT, scene::WORDS);
+    let given = scene::open(65536, LARGEST_LIMIT, scene::WORDS);
     let expected = given.scene;
     case::same(t, c, 0, expected, found)
 }

@@ -1,7 +1,5 @@
-// The mirror job: the crane's file and the server's, kept alike by the same requests. Both are opened by the default opening, both get the
-// same requests, both are purged by one list, each in an order of its own, and both get further requests. Every word must agree.
-//
-// It relies on the default page size, 4,096: the addresses below are those that document 01's rules give with it.
+// The mirror job: the crane's file and the server's, kept alike by the same requests. Both are opened with the same numbers, both get
+// the same requests, both are purged by one list, each in an order of its own, and both get further requests. Every word must agree.
 use call::Call;
 use show::answer;
 use show::answer::Answer;
@@ -16,6 +14,11 @@ use show::text::say_number;
 use show::words;
 use space::place::METADATA;
 use space::place::RAW;
+
+// The addresses below are those that document 01's rules give with pages of this size, whatever size a default opening has.
+const PAGE: u64 = 4096;
+
+const LIMIT: u64 = sound::LARGEST_LIMIT;
 
 // One file, and the claims so far.
 struct Job {
@@ -80,8 +83,8 @@ fn ask_both(both: Both, call: Call, expected: Answer) -> Both {
 
 // The two files, opened. Their tables have the same words.
 fn open_both(t: Tally) -> Both {
-    let one = scene::open_default();
-    let two = scene::open_default();
+    let one = scene::open(PAGE, LIMIT, scene::WORDS);
+    let two = scene::open(PAGE, LIMIT, scene::WORDS);
     let first = one.answer;
     let second = two.answer;
     let t = t.answer(b"the crane's file is opened", 0, Answer::Done, first);

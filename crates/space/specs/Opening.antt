@@ -2,7 +2,7 @@
 --
 --   nowhere               four zeros, the state of a refused opening
 --   opened P M w          what an opening leaves. P, M and the table's length lie in the ranges of a sound state with E and n 0
---   defaultPage, defaultLimit   the default opening
+--   defaultPage, defaultLimit   P and M of the default opening; P is request E7's
 --
 -- Assumes nothing.
 use mathlib.Core.Bool.{cond}
@@ -16,7 +16,7 @@ use Rattle.space.specs.Outcomes.{Outcome}
 use Rattle.space.specs.declared.Space.{Space}
 
 abbrev pub defaultPage : ℕ
-defaultPage = 4096
+defaultPage = 65536
 
 abbrev pub defaultLimit : ℕ
 defaultLimit = largestLimit

@@ -6,7 +6,8 @@ use crate::Space;
 use crate::answers::OpenAnswer;
 use crate::answers::Opened;
 
-const DEFAULT_PAGE: u64 = 4096;
+// The blocks of the storage that new recorders sit on (request E7).
+const DEFAULT_PAGE: u64 = 65536;
 
 const DEFAULT_LIMIT: u64 = sound::LARGEST_LIMIT;
 
@@ -38,7 +39,7 @@ impl Space {
         }
     }
 
-    // Pages of 4,096 bytes, and the largest limit.
+    // Pages of the default size, and the largest limit.
     pub fn open_default(table: &mut [u64]) -> Opened
         ensures { λ r. ⌜ openSaid r (now (table .exit)) ≡ opened defaultPage defaultLimit (now (table .entry)) ⌝ }
     {
