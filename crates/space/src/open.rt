@@ -6,7 +6,7 @@ use crate::Space;
 use crate::answers::OpenAnswer;
 use crate::answers::Opened;
 
-// The blocks of the storage that new recorders sit on (request E7).
+// The size of the blocks of the storage that new recorders sit on (request E7).
 const DEFAULT_PAGE: u64 = 65536;
 
 const DEFAULT_LIMIT: u64 = sound::LARGEST_LIMIT;
