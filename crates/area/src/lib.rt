@@ -4,6 +4,8 @@
 // An opening, and one function for all that can be asked of an open file, look at the area's length, and lend a local table to their twins in
 // `area_calls`. These decide (`space`) on the state and the words that the bytes are, and only then write: the state, and the entries from the first
 // that the change replaces up to the last one. An opening reads nothing, and writes all.
+#![tactic(auto)]
+
 ghost use Rattle.std.specs.Prelude.{◌≡◌, length, ◌*◌};
 ghost use Rattle.area_calls.specs.Asking.{ToldIn};
 ghost use Rattle.area_calls.specs.Calls.{area_said, both_said, opened_in, allocated_in, released_in, extended_in, shortened_in};

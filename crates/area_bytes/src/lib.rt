@@ -1,4 +1,6 @@
 // The area of a C host, in bytes: the four numbers of the state, then the words of the table, each a word of eight bytes, the lowest byte first.
+#![tactic(auto)]
+
 ghost use Rattle.std.specs.Prelude.{◌≡◌, ◌+◌, ◌*◌, ◌≤◌, length};
 ghost use Rattle.area_bytes.specs.Area.{table_at, entry_bytes, area_lengthb, table_words, state_in, words_in, AreaFits, head_of, area_of};
 ghost use Rattle.little.specs.Little.{word_bytes, part, bytes_of_all, laid};

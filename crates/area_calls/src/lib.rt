@@ -1,5 +1,7 @@
 // The calls over an area of a known length, with a table for its words. All but an opening are one function: state and words are read and tested, what
 // is asked is decided on, and only then a byte is written.
+#![tactic(auto)]
+
 ghost use Rattle.std.specs.Prelude.{◌≡◌};
 ghost use Rattle.area_calls.specs.Asking.{meant, Leads, ToldIn};
 ghost use Rattle.area_calls.specs.Calls.{Lent, Holds, area_said, opened_in, left_by};
@@ -43,7 +45,7 @@ fn carry_out(space: Space, table: &mut [u64], plan: Plan, area: &mut [u8])
 }
 
 // What is asked of a file that was opened: a type's code and a size; a piece's address and size; a piece's, which way, and by how much.
-#[derive(Drop)]
+#[derive(Clone, Copy)]
 pub enum Asked {
     Allocate(u64, u64),
     Release(u64, u64),
@@ -51,14 +53,14 @@ pub enum Asked {
 }
 
 // What is told: the number, and the address of a new piece, 2^64 - 1 where there is none.
-#[derive(Drop)]
+#[derive(Clone, Copy)]
 pub struct Told {
     pub number: u64,
     pub address: u64,
 }
 
 // What is decided: the address that is to be told and the change, or the number of the refusal.
-#[derive(Drop)]
+#[derive(Clone, Copy)]
 pub enum Decision {
     Change(u64, Plan),
     Refused(u64),

@@ -10,6 +10,8 @@
 //
 // The parts: 0 the front of the table, 1 its middle, 2 its end. bench/workload.h is the same workload in C, through a plain C version (bench/space.c)
 // and over an area of bytes (bench/area.c), and must write the same.
+#![tactic(auto)]
+
 mod named;
 mod with;
 
@@ -45,7 +47,7 @@ const CALLS_BY_NAME: u64 = 4;
 
 // The space, the last number drawn, and what is kept of the answers: a checksum, how many calls were accepted, and the sum of the counts of
 // entries.
-#[derive(Drop)]
+#[derive(Clone, Copy)]
 pub struct Run {
     pub space: Space,
     pub draw: u64,
@@ -55,7 +57,7 @@ pub struct Run {
 }
 
 // A live piece: its entry, address and size.
-#[derive(Drop)]
+#[derive(Clone, Copy)]
 pub enum Found {
     Live(usize, u64, u64),
     Nothing,
@@ -295,7 +297,7 @@ fn with_digit(n: u64, byte: u8) -> u64 {
 }
 
 // What standard input asks for.
-#[derive(Drop)]
+#[derive(Clone, Copy)]
 struct Wish {
     entries: u64,
     capacity: u64,

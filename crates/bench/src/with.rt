@@ -8,7 +8,7 @@ use std::num::wrapping_sub_u64;
 use totals::Summary;
 
 // A run, and the summary that it keeps.
-#[derive(Drop)]
+#[derive(Clone, Copy)]
 struct Kept {
     run: Run,
     summary: Summary,

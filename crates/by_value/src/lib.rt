@@ -3,6 +3,8 @@
 //
 // Each call tests state and table once, and the summary against the table; then it decides (`space`), reads the totals of the entries that are to
 // go, carries the change out, and finds the new totals from those that were given, those that went and those that were laid.
+#![tactic(auto)]
+
 ghost use Rattle.std.specs.Prelude.{◌≡◌, ◌&&◌};
 ghost use Rattle.by_value.specs.Change.{ChangeFits, change_said, changed_by};
 ghost use Rattle.by_value.specs.Told.{told, kept, fresh_number, fresh_said};
@@ -26,27 +28,27 @@ use totals::Summary;
 
 // ---- what a call is asked
 
-#[derive(Drop)]
+#[derive(Clone, Copy)]
 pub struct Pages {
     pub page: u64,
     pub limit: u64,
 }
 
-#[derive(Drop)]
+#[derive(Clone, Copy)]
 pub struct Request {
     pub code: u64,
     pub size: u64,
 }
 
 // A live piece.
-#[derive(Drop)]
+#[derive(Clone, Copy)]
 pub struct Named {
     pub address: u64,
     pub size: u64,
 }
 
 // A live piece, and by how many bytes it is to be longer or shorter.
-#[derive(Drop)]
+#[derive(Clone, Copy)]
 pub struct Change {
     pub address: u64,
     pub size: u64,
@@ -55,47 +57,47 @@ pub struct Change {
 
 // ---- what it hands back: the answer, whether the summary changes, and the summary
 
-#[derive(Drop)]
+#[derive(Clone, Copy)]
 pub enum FreshAnswer {
     Done,
     NotSound,
 }
 
-#[derive(Drop)]
+#[derive(Clone, Copy)]
 pub struct Freshened {
     pub space: Space,
     pub answer: FreshAnswer,
 }
 
-#[derive(Drop)]
+#[derive(Clone, Copy)]
 pub struct OpenedWith {
     pub opened: Opened,
     pub counted: bool,
     pub summary: Summary,
 }
 
-#[derive(Drop)]
+#[derive(Clone, Copy)]
 pub struct AllocatedWith {
     pub allocated: Allocated,
     pub counted: bool,
     pub summary: Summary,
 }
 
-#[derive(Drop)]
+#[derive(Clone, Copy)]
 pub struct ReleasedWith {
     pub released: Released,
     pub counted: bool,
     pub summary: Summary,
 }
 
-#[derive(Drop)]
+#[derive(Clone, Copy)]
 pub struct ResizedWith {
     pub resized: Resized,
     pub counted: bool,
     pub summary: Summary,
 }
 
-#[derive(Drop)]
+#[derive(Clone, Copy)]
 pub struct FreshenedWith {
     pub freshened: Freshened,
     pub counted: bool,
@@ -103,7 +105,7 @@ pub struct FreshenedWith {
 }
 
 // The state and the summary behind a change.
-#[derive(Drop)]
+#[derive(Clone, Copy)]
 pub struct Changed {
     pub space: Space,
     pub summary: Summary,

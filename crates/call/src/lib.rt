@@ -1,4 +1,6 @@
 // A call on an open file as one value, and what is recorded of it: its number, and an allocation's address.
+#![tactic(auto)]
+
 ghost use Rattle.std.specs.Prelude.{◌≡◌};
 ghost use Rattle.call.specs.Answered.{answered, answer_said};
 
@@ -6,7 +8,7 @@ use refusals::{address_of, allocate_number, release_number, resize_number};
 use space::Space;
 
 // What a caller can ask of an open file: a type's code and a size; a piece by address and size; and by how much it changes.
-#[derive(Drop)]
+#[derive(Clone, Copy)]
 pub enum Call {
     Allocate(u64, u64),
     Release(u64, u64),
@@ -15,7 +17,7 @@ pub enum Call {
 }
 
 // The state then, the call's number, and its answer: an allocation's address, 2^64 - 1 where it is refused, and 0 of the other calls.
-#[derive(Drop)]
+#[derive(Clone, Copy)]
 pub struct Told {
     pub space: Space,
     pub number: u64,

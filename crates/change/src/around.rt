@@ -6,7 +6,7 @@ ghost use Rattle.change.specs.Change.{former_of, next_of};
 use pieces::{Class, Status};
 
 // The entry behind the former live piece, that piece's class, and where it ends.
-#[derive(Drop)]
+#[derive(Clone, Copy)]
 pub struct Former {
     pub from: usize,
     pub class: Class,

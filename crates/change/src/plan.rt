@@ -10,7 +10,7 @@ use edit::new::{New, count_new};
 use pieces::Piece;
 
 // The entries from `from` up to `to` are to be replaced by new ones. Then the file ends at `end`, and the table has `count` entries.
-#[derive(Drop)]
+#[derive(Clone, Copy)]
 pub struct Plan {
     pub from: usize,
     pub to: usize,

@@ -1,5 +1,7 @@
 // The best place for a piece: of the free entries that it fits, the smallest, and of several as small the lowest. Nothing is added to a size
 // or an address, so every size up to 2^64 - 1 may be asked.
+#![tactic(auto)]
+
 pub mod place;
 
 ghost use Rattle.std.specs.Prelude.{◌≡◌, ◌+◌, ◌*◌, ◌≤◌, ◌<◌, length};
@@ -10,7 +12,7 @@ ghost use Rattle.choose.specs.Walk.{no_size, size_if_fits, holding, ChooseFits};
 use pieces::{Class, Piece, Status};
 
 // An entry's number with its piece, or nothing where none fits.
-#[derive(Drop)]
+#[derive(Clone, Copy)]
 pub enum Chosen {
     At(usize, Piece),
     Nothing,

@@ -7,7 +7,7 @@ ghost use Rattle.choose.specs.Walk.{ChooseFits};
 use crate::{Chosen, best_place};
 use pieces::Class;
 
-#[derive(Drop)]
+#[derive(Clone, Copy)]
 pub enum Place {
     // In entry i, a section of the right manager, at this address.
     Section(usize, u64),

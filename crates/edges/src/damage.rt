@@ -19,7 +19,7 @@ const OTHERS: usize = 13;
 const LARGEST: u64 = 18446744073709551615;
 
 // How many damages of a word are refused 2, how many leave a sound table, and how many are neither or other than known.
-#[derive(Drop)]
+#[derive(Clone, Copy)]
 struct Counts {
     refused: u64,
     sound: u64,

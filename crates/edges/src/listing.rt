@@ -18,7 +18,7 @@ const UNTOUCHED: [u64; LIST_WORDS] = [7; LIST_WORDS];
 
 const LARGEST: u64 = 18446744073709551615;
 
-#[derive(Drop)]
+#[derive(Clone, Copy)]
 struct Lists {
     answer: Answer,
     scene: Scene,

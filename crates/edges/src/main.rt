@@ -1,5 +1,7 @@
 // Every refusal of every call at its edge, from both sides, and the cases that document 01 names under 'By program'. Each case is a claim. After
 // each refused call every lent word and the state are compared with what they were.
+#![tactic(auto)]
+
 mod cases;
 mod damage;
 mod full;

@@ -13,7 +13,7 @@ ghost use Rattle.edit.specs.New.{gap_of, tail_of, gap_entries, free_count, Put};
 use pages::{round_down, round_up};
 use pieces::{Class, Piece, Status, put};
 
-#[derive(Drop)]
+#[derive(Clone, Copy)]
 pub struct Gap {
     pub a: u64,
     pub lo: u64,

@@ -6,7 +6,7 @@ ghost use Rattle.edit.specs.New.{new_entries};
 use crate::gap::{Gap, count_gap, put_gap};
 use pieces::{Piece, put};
 
-#[derive(Drop)]
+#[derive(Clone, Copy)]
 pub enum New {
     Without(Gap),
     With(Gap, Piece, Gap),

@@ -14,7 +14,7 @@ const LARGEST_TENTH: u64 = 1844674407370955161;
 
 const LARGEST: u64 = 18446744073709551615;
 
-#[derive(Drop)]
+#[derive(Clone, Copy)]
 pub enum Number {
     Is(u64),
     TooLarge,
@@ -22,7 +22,7 @@ pub enum Number {
 }
 
 // What one more digit makes of a value.
-#[derive(Drop)]
+#[derive(Clone, Copy)]
 pub enum Longer {
     To(u64),
     Beyond,

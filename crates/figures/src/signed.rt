@@ -11,7 +11,7 @@ const MOST_BELOW: u64 = 9223372036854775808;
 
 const MOST_ABOVE: u64 = 9223372036854775807;
 
-#[derive(Drop)]
+#[derive(Clone, Copy)]
 pub enum Signed {
     Is(i64),
     TooLarge,

@@ -11,7 +11,7 @@ use figures::signed::Signed;
 use say::{map, report, sheet, tables};
 
 // The numbers of a line: read up to a place, or why not.
-#[derive(Drop)]
+#[derive(Clone, Copy)]
 pub enum Numbers {
     To(usize),
     TooLarge,

@@ -1,7 +1,7 @@
 // The calls by their names, and how many words each takes.
 use script::words::{is_text, next_word};
 
-#[derive(Drop)]
+#[derive(Clone, Copy)]
 pub enum Call {
     Open,
     Default,

@@ -4,7 +4,7 @@ ghost use Rattle.std.specs.Prelude.{◌≡◌};
 use space::Space;
 use totals::Summary;
 
-#[derive(Drop)]
+#[derive(Clone, Copy)]
 pub struct Run {
     // The state that the next call gets, how many words the lent table has, and the summary that is lent beside it.
     pub space: Space,

@@ -1,6 +1,8 @@
 // `filespace` reads calls from standard input, one to a line, and answers each. It is thin: the words of a line are `script`'s, what a word
 // says is `figures`', the calls are those of `own_summary`, `space` and `message`, and `say` prints. What is here is proved to be safe and to end;
 // what is read and written, nothing can promise.
+#![tactic(auto)]
+
 mod answer;
 mod calls;
 mod carry;

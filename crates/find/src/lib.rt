@@ -1,4 +1,6 @@
 // What an address and a size name in a table: a live piece, or else what is wrong with them. The entry in which the address lies decides.
+#![tactic(auto)]
+
 ghost use Rattle.std.specs.Prelude.{◌≡◌};
 ghost use Rattle.pieces.specs.Words.{entries};
 ghost use Rattle.find.specs.Find.{told_of, find_in};
@@ -6,7 +8,7 @@ ghost use Rattle.find.specs.Walk.{Started, FindFits};
 
 use pieces::{Piece, address_at, is_free, piece_of, words_at};
 
-#[derive(Drop)]
+#[derive(Clone, Copy)]
 pub enum Found {
     At(usize, Piece),
     BeyondEnd,

@@ -1,4 +1,6 @@
 // Numbers in bytes, the lowest byte first.
+#![tactic(auto)]
+
 ghost use Rattle.std.specs.Prelude.{◌≡◌, ◌-◌, ◌≤◌, ◌<◌, length};
 ghost use Rattle.little.specs.Little.{byte_values, little, bytes_of, value_at, laid};
 

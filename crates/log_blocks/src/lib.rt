@@ -1,4 +1,6 @@
 // A block of a log: its number, the count of its records and three zero bytes, the records, zeros, and the check.
+#![tactic(auto)]
+
 pub mod records;
 
 ghost use Rattle.std.specs.Prelude.{◌≡◌, ◌+◌, ◌*◌, ◌≤◌, ◌<◌, length, take, drop};

@@ -34,7 +34,7 @@ pub const EXTEND: u64 = 3;
 pub const SHORTEN: u64 = 4;
 
 // The fields in their order. `code` is the type's, and `zeros` are the five bytes behind the refusal's number.
-#[derive(Drop)]
+#[derive(Clone, Copy)]
 pub struct Record {
     pub operation: u64,
     pub code: u64,

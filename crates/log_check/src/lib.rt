@@ -1,4 +1,6 @@
 // The check of a block of a log: two sums over the words of 16 bits before it.
+#![tactic(auto)]
+
 ghost use Rattle.std.specs.Prelude.{◌≡◌, ◌+◌, ◌≤◌, ◌<◌, length, take, drop};
 ghost use Rattle.little.specs.Little.{little};
 ghost use Rattle.log_check.specs.Check.{block_bytes, short_bytes, check_at, shorts_in, sums_of, checkb};
@@ -18,7 +20,7 @@ const SHORTS: usize = CHECK_AT / SHORT_BYTES;
 
 const SUM_VALUES: u64 = 65535;
 
-#[derive(Drop)]
+#[derive(Clone, Copy)]
 pub struct Sums {
     pub a: u64,
     pub b: u64,

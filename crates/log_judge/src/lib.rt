@@ -5,6 +5,8 @@
 //   next          one block more, of any length: one that has not 512 bytes is damage
 //   next_blocks   the blocks that a part of the log is cut into
 //   conclude      after the last
+#![tactic(auto)]
+
 ghost use Rattle.std.specs.Prelude.{[], ◌∷◌, ◌≡◌, ◌+◌, ◌^◌, ◌<◌, min};
 ghost use Rattle.log_judge.specs.Carried.{stands_after, damaged_after, someb, Going, Fits, Starts, Follows, Ends};
 ghost use Rattle.log_check.specs.Check.{block_bytes};
@@ -21,7 +23,7 @@ use space::Space;
 pub const TABLE_WORDS: usize = LARGEST_CAPACITY * ENTRY_WORDS;
 
 // The judgement: how many records and the end of file, the first record that disagrees, or the first bad block.
-#[derive(Drop)]
+#[derive(Clone, Copy)]
 pub enum Verdict {
     Agrees(u64, u64),
     Differs(u64),
@@ -29,7 +31,7 @@ pub enum Verdict {
 }
 
 // How a log stands after some blocks.
-#[derive(Drop)]
+#[derive(Clone, Copy)]
 pub enum Standing {
     Agreeing,
     Differing(u64),
@@ -38,7 +40,7 @@ pub enum Standing {
 
 // What is carried: how the log stands; how many blocks are full and good, and how many records were played; whether the last block has fewer records
 // than a full one, so that nothing may follow it; and the file.
-#[derive(Drop)]
+#[derive(Clone, Copy)]
 pub struct Judge {
     pub standing: Standing,
     pub blocks: u64,

@@ -1,4 +1,6 @@
 // The records of a log, played over a lent table: each call is made once more, on what the ones before it left, and compared with the record.
+#![tactic(auto)]
+
 ghost use Rattle.std.specs.Prelude.{◌≡◌, ◌≤◌, length, drop, replicate};
 ghost use Rattle.log_blocks.specs.Blocks.{records_at, most_records};
 ghost use Rattle.log_blocks.specs.Records.{records_from};
@@ -18,14 +20,14 @@ use space::Space;
 use space::answers::Opened;
 
 // A file: its state, and how many of the lent table's words are its own.
-#[derive(Drop)]
+#[derive(Clone, Copy)]
 pub struct Held {
     pub space: Space,
     pub used: usize,
 }
 
 // What a call told that was made once more, and the file then.
-#[derive(Drop)]
+#[derive(Clone, Copy)]
 pub struct Told {
     pub number: u64,
     pub answer: u64,
@@ -33,7 +35,7 @@ pub struct Told {
 }
 
 // How many records agreed before the first one that did not, and the file then.
-#[derive(Drop)]
+#[derive(Clone, Copy)]
 pub struct Run {
     pub agreed: usize,
     pub file: Held,

@@ -1,5 +1,7 @@
 // The File Space Info message, version 1: read out of the part of a header block that starts at the message, written into one, and the part
 // of the block that follows it. No public call has a `requires`: what breaks a rule is refused.
+#![tactic(auto)]
+
 ghost use Rattle.std.specs.Prelude.{◌≡◌};
 ghost use Rattle.message_fields.specs.Fields.{read_said};
 ghost use Rattle.message.specs.Message.{reading, following, write_said, Wrote};

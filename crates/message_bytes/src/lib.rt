@@ -1,4 +1,6 @@
 // The fields of a message in bytes: each is read out of its part of a slice, and written into it.
+#![tactic(auto)]
+
 ghost use Rattle.std.specs.Prelude.{◌≡◌, ◌≤◌, ◌++◌, length, drop};
 ghost use Rattle.little.specs.Little.{bytes_of_all};
 ghost use Rattle.message_fields.specs.Fields.{length_of};

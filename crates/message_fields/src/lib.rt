@@ -1,5 +1,7 @@
 // What a File Space Info message holds and what a call on one answers: the fields with their places in bytes, the answers with their numbers,
 // and the rules that the fields keep (legal.rt).
+#![tactic(auto)]
+
 pub mod legal;
 
 ghost use Rattle.std.specs.Prelude.{◌≡◌};
@@ -40,7 +42,7 @@ pub const LEAST_LENGTH: usize = HEAD_LENGTH;
 pub const VERSION: u8 = 1;
 
 // The fields but for the version. The type order is superblock, B-tree, raw, global heap, local heap, object header.
-#[derive(Drop)]
+#[derive(Clone, Copy)]
 pub struct Fields {
     pub strategy: u8,
     pub persist: u8,
@@ -52,21 +54,21 @@ pub struct Fields {
     pub large: [u64; TYPES],
 }
 
-#[derive(Drop)]
+#[derive(Clone, Copy)]
 pub enum Refusal {
     Short,
     Version,
     Field,
 }
 
-#[derive(Drop)]
+#[derive(Clone, Copy)]
 pub enum Answer {
     Done,
     Refused(Refusal),
 }
 
 // The answer stands beside the fields, which are all 0 where the message is refused.
-#[derive(Drop)]
+#[derive(Clone, Copy)]
 pub struct Read {
     pub answer: Answer,
     pub fields: Fields,

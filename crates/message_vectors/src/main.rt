@@ -1,6 +1,8 @@
 // Holds the message against outside bytes. data/hdf5-messages.txt is the customer's file: messages cut out of files that HDF5 1.10.8
 // wrote, with their fields. Each line of the output is a claim, with what is expected in it; what was found stands before it where it
 // fails.
+#![tactic(auto)]
+
 mod cases;
 mod damage;
 mod edges;

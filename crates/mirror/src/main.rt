@@ -1,5 +1,7 @@
 // The mirror job: the crane's file and the server's, kept alike by the same requests. Both are opened with the same numbers, both get
 // the same requests, both are purged by one list, each in an order of its own, and both get further requests. Every word must agree.
+#![tactic(auto)]
+
 use call::Call;
 use show::answer::Answer;
 use show::claim::{Tally, say_verdict};
@@ -14,13 +16,13 @@ const PAGE: u64 = 4096;
 const LIMIT: u64 = sound::LARGEST_LIMIT;
 
 // One file, and the claims so far.
-#[derive(Drop)]
+#[derive(Clone, Copy)]
 struct Job {
     scene: Scene,
     tally: Tally,
 }
 
-#[derive(Drop)]
+#[derive(Clone, Copy)]
 struct Both {
     crane: Scene,
     server: Scene,

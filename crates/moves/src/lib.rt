@@ -1,4 +1,6 @@
 // Words of a lent table moved or cleared in place. A move reads every word before another is laid over it.
+#![tactic(auto)]
+
 ghost use Rattle.std.specs.Prelude.{◌≡◌, ◌+◌, ◌*◌, ◌≤◌, length, drop, replicate};
 ghost use Rattle.std.proofs.Math.Seq.{paste};
 ghost use Rattle.moves.specs.Moves.{move_block};

@@ -2,6 +2,8 @@
 // beside the answer. The parameters and results are plain here, so that a program that calls these needs no proof for a struct behind `&mut`.
 //
 // All bodies have one shape, and one law proves them all (proofs/Own.antt): a body stays word for word as it is.
+#![tactic(auto)]
+
 ghost use Rattle.std.specs.Prelude.{◌≡◌};
 ghost use Rattle.by_value.specs.Told.{told, fresh_said};
 ghost use Rattle.by_value.specs.With.{opened_with, allocated_with, released_with, extended_with, shortened_with, freshened};
@@ -14,31 +16,31 @@ use space::answers::{Allocated, Opened, Released, Resized};
 use totals::Summary;
 
 // What a call hands back: its answer with the state, and the summary.
-#[derive(Drop)]
+#[derive(Clone, Copy)]
 pub struct OpenedOn {
     pub opened: Opened,
     pub summary: Summary,
 }
 
-#[derive(Drop)]
+#[derive(Clone, Copy)]
 pub struct AllocatedOn {
     pub allocated: Allocated,
     pub summary: Summary,
 }
 
-#[derive(Drop)]
+#[derive(Clone, Copy)]
 pub struct ReleasedOn {
     pub released: Released,
     pub summary: Summary,
 }
 
-#[derive(Drop)]
+#[derive(Clone, Copy)]
 pub struct ResizedOn {
     pub resized: Resized,
     pub summary: Summary,
 }
 
-#[derive(Drop)]
+#[derive(Clone, Copy)]
 pub struct FreshenedOn {
     pub freshened: Freshened,
     pub summary: Summary,

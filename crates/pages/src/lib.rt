@@ -1,5 +1,7 @@
 // Page borders. P is any page size from 512 to 2^30: no power of two is assumed, so a border is found by division and never by a mask. And the larger of
 // two numbers, which has nothing to do with pages.
+#![tactic(auto)]
+
 ghost use Rattle.std.specs.Prelude.{◌≡◌, ◌+◌, ◌≤◌, ◌<◌, ◌^◌, max};
 ghost use Rattle.pages.specs.Pages.{down, up, up_from, borderb, page_sizeb};
 

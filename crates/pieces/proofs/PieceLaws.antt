@@ -127,7 +127,7 @@ entry_among entry_here = Memᴰ.head refl
 entry_among (entry_later e) = Memᴰ.tail (entry_among e)
 
 -- and an entry among them has a number
-pub entry_number : {es : List Piece} {x : Piece} → Memᴰ x es → (i : ℕ) × EntryIs es i x
+pub entry_number : {x : Piece} {es : List Piece} → Memᴰ x es → (i : ℕ) × EntryIs es i x
 entry_number {x = x} (Memᴰ.head {x = y} {xs = es} e) = (0, rw e entry_here)
 entry_number (Memᴰ.tail h) = let r = entry_number h in (suc r.0, entry_later r.1)
 

@@ -55,6 +55,7 @@ entries_none w n i h = let e : n - i ≡ 0 = omega arith in rw e
 -- the entries that a walk over words meets
 pub entry_read : (w : List ℕ) (j n : ℕ) {i : ℕ} {x : Piece} → EntryIs (entries w j n) i x → (i < n) × (x ≡ entry_at w (j + i))
 unfolding entries
+entry_read w j zero h = elim h [ ]
 entry_read w j (suc n) entry_here = (omega arith, rw add-zero)
 entry_read w j (suc n) (entry_later {i = i} e) =
     let h = entry_read w (suc j) n e in

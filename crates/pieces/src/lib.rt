@@ -3,26 +3,28 @@
 //
 //     word    | i * 3    | i * 3 + 1 | i * 3 + 2
 //     entry i | address  | size      | kind
+#![tactic(auto)]
+
 pub mod kind;
 
 ghost use Rattle.std.specs.Prelude.{◌≡◌, [], ◌∷◌, ◌+◌, ◌*◌, ◌/◌, ◌≤◌, min, length};
 ghost use Rattle.pieces.specs.Pieces.{class_of, freeb, large_freeb, kind_of, kindb, status_of};
 ghost use Rattle.pieces.specs.Words.{entry_words, words_at, piece_of, entry_at, laid};
 
-#[derive(Drop)]
+#[derive(Clone, Copy)]
 pub enum Class {
     SmallMetadata,
     SmallRaw,
     Large,
 }
 
-#[derive(Drop)]
+#[derive(Clone, Copy)]
 pub enum Status {
     Live(Class),
     Free(Class),
 }
 
-#[derive(Drop)]
+#[derive(Clone, Copy)]
 pub struct Piece {
     pub address: u64,
     pub size: u64,
@@ -30,7 +32,7 @@ pub struct Piece {
 }
 
 // The three words of an entry as they stand, whatever they say.
-#[derive(Drop)]
+#[derive(Clone, Copy)]
 pub struct Words {
     pub address: u64,
     pub size: u64,

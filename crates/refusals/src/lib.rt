@@ -1,15 +1,17 @@
 // The numbered refusals, and what the calls on a space answer: one case for each refusal that a call can give, and its number.
+#![tactic(auto)]
+
 ghost use Rattle.std.specs.Prelude.{◌≡◌};
 ghost use Rattle.refusals.specs.AnswerNumbers.{open_number, allocate_number, address_of, list_number, count_of};
 ghost use Rattle.refusals.specs.AnswerNumbers.{not_named_number, release_number, not_resized_number, resize_number};
 
-#[derive(Drop)]
+#[derive(Clone, Copy)]
 pub enum OpenAnswer {
     Done,
     OutOfRange,
 }
 
-#[derive(Drop)]
+#[derive(Clone, Copy)]
 pub enum AllocateAnswer {
     At(u64),
     NotSound,
@@ -21,7 +23,7 @@ pub enum AllocateAnswer {
 
 // Why a call that names a piece by address and size goes no further: a size or change of 0, which is no release's; or the address is at or beyond
 // the end, lies in free space, lies inside a live piece and isn't its start, or is a live piece's start and the size differs.
-#[derive(Drop)]
+#[derive(Clone, Copy)]
 pub enum NotNamed {
     NoBytes,
     BeyondEnd,
@@ -30,7 +32,7 @@ pub enum NotNamed {
     OtherSize,
 }
 
-#[derive(Drop)]
+#[derive(Clone, Copy)]
 pub enum ReleaseAnswer {
     Done,
     NotSound,
@@ -39,7 +41,7 @@ pub enum ReleaseAnswer {
 }
 
 // Why a named piece keeps its size: the first two are an extend's, the third is a shorten's.
-#[derive(Drop)]
+#[derive(Clone, Copy)]
 pub enum NotResized {
     NoRoomBehind,
     BeyondLimit,
@@ -47,7 +49,7 @@ pub enum NotResized {
 }
 
 // Of an extend and of a shorten.
-#[derive(Drop)]
+#[derive(Clone, Copy)]
 pub enum ResizeAnswer {
     Done,
     NotSound,
@@ -56,7 +58,7 @@ pub enum ResizeAnswer {
     TableFull,
 }
 
-#[derive(Drop)]
+#[derive(Clone, Copy)]
 pub enum ListAnswer {
     Sections(u64),
     NotSound,

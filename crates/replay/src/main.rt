@@ -1,5 +1,7 @@
 // `replay` reads a recorder's log from standard input to its end, whatever its length, and says in one line how it is judged. It is thin: the
 // judgement is that of `log_judge`, of which a buffer of whole blocks is given at a time. What is read and written, nothing can promise.
+#![tactic(auto)]
+
 ghost use Rattle.std.specs.Prelude.{◌≡◌, ◌≤◌, length};
 ghost use Rattle.log_play.specs.Lent.{Lent};
 ghost use Rattle.replay.specs.Reading.{buffer_bytes, Carried, Within};
@@ -12,7 +14,7 @@ const BUFFER_BYTES: usize = 128 * BLOCK_BYTES;
 
 // What is carried from read to read: the judge of what was read before the buffer was emptied last, how many bytes are in the buffer since then, and
 // whether the input is over, or could not be read.
-#[derive(Drop)]
+#[derive(Clone, Copy)]
 pub struct Reading {
     pub judge: Judge,
     pub filled: usize,
@@ -21,7 +23,7 @@ pub struct Reading {
 }
 
 // What a read got: up to so many bytes in the buffer, nothing since the input is over, or a failure.
-#[derive(Drop)]
+#[derive(Clone, Copy)]
 pub enum Got {
     Up(usize),
     End,

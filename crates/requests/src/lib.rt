@@ -1,4 +1,6 @@
 // What a request names: the codes of types and managers with their classes, and the class of a request by its size.
+#![tactic(auto)]
+
 ghost use Rattle.std.specs.Prelude.{◌≡◌, ◌||◌, eqb};
 ghost use Rattle.requests.specs.Requests.{typeb, class_for, managerb, class_of_manager};
 

@@ -1,5 +1,7 @@
 // The room behind a piece, how far a file may grow, and what remains of a piece that is shortened. Nothing is added to a change, since any up to
 // 2^64 - 1 is a legal question.
+#![tactic(auto)]
+
 ghost use Rattle.std.specs.Prelude.{◌≡◌, List, [], ◌∷◌, ℕ, ◌-◌, ◌*◌, ◌≤◌, ◌<◌, length};
 ghost use Rattle.pieces.specs.Words.{entry_words, entries};
 ghost use Rattle.room.specs.Room.{small_roomb, large_roomb, room_behindb, passesb, grows_beyondb, GrowFits, remainsb};

@@ -1,5 +1,7 @@
 // Document 01's run with P = 512, M = 5,120, C = 12: each step with its answer, E and the table after it, then the run again with steps 11 and
 // 12 exchanged. Every answer and every E is compared with document 01's, and so are all words after steps 5 and 12.
+#![tactic(auto)]
+
 use call::Call;
 use show::answer::Answer;
 use show::claim::{Tally, say_verdict};
@@ -14,7 +16,7 @@ const PAGE: u64 = 512;
 const LIMIT: u64 = 5120;
 
 // How far the run has come.
-#[derive(Drop)]
+#[derive(Clone, Copy)]
 struct Run {
     scene: Scene,
     tally: Tally,

@@ -1,4 +1,6 @@
 // The summary of a table, kept: compared with the table, and carried over a change of it.
+#![tactic(auto)]
+
 ghost use Rattle.std.specs.Prelude.{◌≡◌, ◌*◌, ◌≤◌, length};
 ghost use Rattle.pages.specs.Same.{sameb};
 ghost use Rattle.pieces.specs.Words.{entry_words, entries};

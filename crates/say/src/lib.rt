@@ -1,5 +1,7 @@
 // What `filespace` prints, on standard output. What a write answers is not looked at. Here are texts and numbers; the forms of an answer, a table,
 // a map of the file and an inspection sheet have a file each.
+#![tactic(auto)]
+
 pub mod map;
 pub mod report;
 pub mod sheet;

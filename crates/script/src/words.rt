@@ -14,7 +14,7 @@ const COMMENT: u8 = b'#';
 const LINE_END: u8 = b'\n';
 
 // Where a word starts, and where it ends.
-#[derive(Drop)]
+#[derive(Clone, Copy)]
 pub struct Word {
     pub from: usize,
     pub to: usize,

@@ -1,4 +1,6 @@
 // The free sections of one class of a table: counted, and written into a lent list slice as pairs of address and size.
+#![tactic(auto)]
+
 ghost use Rattle.std.specs.Prelude.{◌≡◌, ◌*◌, ◌≤◌, length};
 ghost use Rattle.pieces.specs.Words.{entry_words, entries};
 ghost use Rattle.sections.specs.Sections.{sections, pair_words, list_words, list_said, listed_in};
@@ -7,7 +9,7 @@ use pieces::{Class, kind};
 
 pub const PAIR_WORDS: usize = 2;
 
-#[derive(Drop)]
+#[derive(Clone, Copy)]
 pub enum Listing {
     Sections(usize),
     SliceTooShort,

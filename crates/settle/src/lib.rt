@@ -1,4 +1,6 @@
 // How an accepted change ends: it is planned, its entries are counted, and only then the table is written.
+#![tactic(auto)]
+
 ghost use Rattle.std.specs.Prelude.{◌≡◌, ◌+◌, ◌≤◌, ◌^◌};
 ghost use Rattle.change.specs.Change.{plan_without, plan_with};
 ghost use Rattle.pieces.specs.Pieces.{behind};
@@ -8,7 +10,7 @@ use change::plan::Plan;
 use pieces::{ENTRY_WORDS, Piece};
 
 // A plan that the table has room for, or too little room.
-#[derive(Drop)]
+#[derive(Clone, Copy)]
 pub enum Settling {
     Ready(Plan),
     TableFull,

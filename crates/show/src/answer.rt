@@ -5,7 +5,7 @@ ghost use Rattle.show.specs.Answers.{of_number, sameb};
 use crate::text::{say, say_number};
 use space::answers::DONE;
 
-#[derive(Drop)]
+#[derive(Clone, Copy)]
 pub enum Answer {
     At(u64),
     Sections(u64),

@@ -8,7 +8,7 @@ use crate::answer::Answer;
 use crate::text::{say, say_nth, say_number};
 use crate::{answer, words};
 
-#[derive(Drop)]
+#[derive(Clone, Copy)]
 pub struct Tally {
     pub claims: u64,
     pub failures: u64,

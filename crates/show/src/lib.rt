@@ -1,5 +1,7 @@
 // What the test programs share: a lent table with its state as one value, the calls as values, what they answer in document 01's numbers,
 // printing, and claims that are counted.
+#![tactic(auto)]
+
 pub mod answer;
 pub mod case;
 pub mod claim;

@@ -16,20 +16,20 @@ pub const ENTRIES: usize = 32;
 
 pub const WORDS: usize = ENTRIES * ENTRY_WORDS;
 
-#[derive(Drop)]
+#[derive(Clone, Copy)]
 pub struct Scene {
     pub space: Space,
     pub words: [u64; WORDS],
     pub len: usize,
 }
 
-#[derive(Drop)]
+#[derive(Clone, Copy)]
 pub struct Told {
     pub space: Space,
     pub answer: Answer,
 }
 
-#[derive(Drop)]
+#[derive(Clone, Copy)]
 pub struct Asked {
     pub scene: Scene,
     pub answer: Answer,

@@ -1,6 +1,8 @@
 // Whether a state and a lent table are sound together: the ranges, one pass over the entries that refuses at the first break of a local
 // rule and asks at its end whether it came to E, and the zero words behind them. Any four numbers and any slice get an answer, and no sum can
 // overflow.
+#![tactic(auto)]
+
 ghost use Rattle.std.specs.Prelude.{◌≡◌, ◌+◌, ◌≤◌, ◌&&◌, eqb, length, take, drop};
 ghost use Rattle.pieces.specs.declared.Class.TheVariants.{Large};
 ghost use Rattle.pieces.specs.declared.Status.TheVariants.{Live};

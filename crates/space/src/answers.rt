@@ -9,31 +9,31 @@ pub use refusals::{
 };
 
 // The new state with the answer.
-#[derive(Drop)]
+#[derive(Clone, Copy)]
 pub struct Opened {
     pub space: Space,
     pub answer: OpenAnswer,
 }
 
-#[derive(Drop)]
+#[derive(Clone, Copy)]
 pub struct Allocated {
     pub space: Space,
     pub answer: AllocateAnswer,
 }
 
-#[derive(Drop)]
+#[derive(Clone, Copy)]
 pub struct Released {
     pub space: Space,
     pub answer: ReleaseAnswer,
 }
 
-#[derive(Drop)]
+#[derive(Clone, Copy)]
 pub struct Resized {
     pub space: Space,
     pub answer: ResizeAnswer,
 }
 
-#[derive(Drop)]
+#[derive(Clone, Copy)]
 pub struct Listed {
     pub space: Space,
     pub answer: ListAnswer,

@@ -14,7 +14,7 @@ use pieces::Piece;
 use settle::Settling;
 
 // The entry of the named piece, or why there is none.
-#[derive(Drop)]
+#[derive(Clone, Copy)]
 pub enum Named {
     At(usize, Piece),
     Not(NotNamed),
@@ -33,28 +33,28 @@ impl Named {
 }
 
 // Which way a piece is resized.
-#[derive(Drop)]
+#[derive(Clone, Copy)]
 pub enum Way {
     Longer,
     Shorter,
 }
 
 // How many bytes a piece is to have, or why it keeps those it has.
-#[derive(Drop)]
+#[derive(Clone, Copy)]
 pub enum NewSize {
     Bytes(u64),
     Kept(NotResized),
 }
 
 // What is decided on a release: the change, or the refusal.
-#[derive(Drop)]
+#[derive(Clone, Copy)]
 pub enum ReleaseDecision {
     Change(Plan),
     Refused(ReleaseAnswer),
 }
 
 // So on an extend or a shorten.
-#[derive(Drop)]
+#[derive(Clone, Copy)]
 pub enum ResizeDecision {
     Change(Plan),
     Refused(ResizeAnswer),

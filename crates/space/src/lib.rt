@@ -4,6 +4,8 @@
 // Each call that changes a table is the soundness test; then a half that decides and writes nothing, as `decide_allocate`, and hands back the plan of
 // the change or the refusal; and then, of a plan, `carry_out`. Code that has tested a table once, or looks at the entries that a change replaces
 // before it is written, calls the halves.
+#![tactic(auto)]
+
 pub mod answers;
 pub mod give;
 pub mod list;
@@ -18,7 +20,7 @@ ghost use Rattle.space.specs.Outcomes.{soundb};
 use change::plan::Plan;
 
 // The state: page size, address limit, end of the allocated file, count of entries.
-#[derive(Drop)]
+#[derive(Clone, Copy)]
 pub struct Space {
     pub page: u64,
     pub limit: u64,

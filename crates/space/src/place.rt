@@ -19,7 +19,7 @@ pub const METADATA: u64 = requests::METADATA;
 pub const RAW: u64 = requests::RAW;
 
 // What is decided on a request: where the piece goes, and the change that puts it there; or the refusal.
-#[derive(Drop)]
+#[derive(Clone, Copy)]
 pub enum AllocateDecision {
     Change(u64, Plan),
     Refused(AllocateAnswer),

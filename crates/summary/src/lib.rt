@@ -4,6 +4,8 @@
 // A refused call writes no number of the summary.
 //
 // All bodies have one shape, and one law proves them all (proofs/Thin.antt): a body stays word for word as it is.
+#![tactic(auto)]
+
 ghost use Rattle.std.specs.Prelude.{◌≡◌};
 ghost use Rattle.by_value.specs.Told.{told, fresh_said};
 ghost use Rattle.by_value.specs.With.{opened_with, allocated_with, released_with, extended_with, shortened_with, freshened};

@@ -91,6 +91,7 @@ chain_last (step y r) e = absurd (cons≢nil e)
 pub mem_from : {P E : ℕ} {s : Status} {a : ℕ} {es : List Piece} {x : Piece} → ChainFrom P E s a es → Memᴰ x es → a ≤ x.address
 mem_from (step {a = a} y r) (Memᴰ.head e) = omega (arith, ap (λ (p : Piece). p.address) e)
 mem_from (step {a = a} y r) (Memᴰ.tail m) = omega (arith, mem_from r m)
+mem_from {P = P} {E = E} (stop {s = s} {a = a} _ _) x12 = elim x12 [ ]
 
 pub one_at : {P E : ℕ} {s : Status} {a : ℕ} {es : List Piece} {x y : Piece} → ChainFrom P E s a es → Memᴰ x es → Memᴰ y es
     → x.address ≡ y.address → x ≡ y
@@ -98,3 +99,4 @@ one_at (step v r) (Memᴰ.head e) (Memᴰ.head f) q = e ∙ sym f
 one_at (step v r) (Memᴰ.head e) (Memᴰ.tail j) q = absurd (omega (arith, v.some, mem_from r j, ap (λ (p : Piece). p.address) e))
 one_at (step v r) (Memᴰ.tail i) (Memᴰ.head f) q = absurd (omega (arith, v.some, mem_from r i, ap (λ (p : Piece). p.address) f))
 one_at (step v r) (Memᴰ.tail i) (Memᴰ.tail j) q = one_at r i j q
+one_at {P = P} {E = E} {y = y} (stop {s = s} {a = a} _ _) x20 _ q = elim x20 [ ]

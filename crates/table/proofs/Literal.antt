@@ -34,6 +34,7 @@ module _ (P : ℕ) (pos : 0 < P) where
       y.family (not_border P pos b l (omega (arith, ap (λ (p : Piece). p.address) e))) ∙ sym (ap (λ (p : Piece). class_of p.status) e)
   inside q b l (step {a = a} y r) (mathlib.Core.List.Memᴰ.tail m) h =
       y.family (not_border P pos b l (omega (arith, mem_from r m))) ∙ inside q b (omega arith) r m h
+  inside {E = E} q b l (stop {s = s} {a = a} _ _) x24 h = elim x24 [ ]
 
   pub page_family : {E : ℕ} {s : Status} {a : ℕ} {es : List Piece} {x y : Piece} (q : ℕ) → Border P q → ChainFrom P E s a es
       → Memᴰ x es → Memᴰ y es → Touches P q x → Touches P q y → class_of x.status ≡ class_of y.status
@@ -43,6 +44,7 @@ module _ (P : ℕ) (pos : 0 < P) where
   page_family q b (step e r) (mathlib.Core.List.Memᴰ.tail i) (mathlib.Core.List.Memᴰ.head j) u v =
       sym (ap (λ (p : Piece). class_of p.status) j ∙ inside q b (rw j at v).high r i u.low)
   page_family q b (step e r) (mathlib.Core.List.Memᴰ.tail i) (mathlib.Core.List.Memᴰ.tail j) u v = page_family q b r i j u v
+  page_family {E = E} {y = y} q b (stop {s = s} {a = a} _ _) x28 _ u v = elim x28 [ ]
 
   -- ---- a page with a small entry has a live one
 
@@ -84,6 +86,7 @@ module _ (P : ℕ) (pos : 0 < P) where
       go : Living t (a + n) q es → Living s a q (piece a n t ∷ es)
       go (among f) = among (live_later f)
       go (before c e l g) = among (live_here e (omega arith) l)
+  page_living {E = E} q b (stop {s = s} {a = a} _ _) x24 h u = elim x24 [ ]
 
   pub page_live : {E : ℕ} {es : List Piece} {x : Piece} (q : ℕ) → Border P q → Chain P E es → Memᴰ x es → Small (class_of x.status)
       → Touches P q x → LiveIn P q es
@@ -111,11 +114,13 @@ module _ (P : ℕ) (pos : 0 < P) where
       let z : Each (piece a n t) = record { filled = y.some; within = y.small; aligned = y.aligned; whole = y.whole } in
       rw e z
   each (step y r) (mathlib.Core.List.Memᴰ.tail m) = each r m
+  each {E = E} (stop {s = s} {a = a} _ _) x12 = elim x12 [ ]
 
   no_large : {E : ℕ} {s : Status} {a : ℕ} {es : List Piece} {x y : Piece} → ChainFrom P E s a es → Neighbours x y es
       → x.status ≡ Free Large → y.status ≡ Free Large → ⊥
   no_large (step e (step f r)) here p q = f.large_merged p q
   no_large (step e r) (later m) p q = no_large r m p q
+  no_large {E = E} {y = y} (stop {s = s} {a = a} _ _) x20 p q = elim x20 [ ]
 
   no_small : {E : ℕ} {s : Status} {a : ℕ} {es : List Piece} {x y : Piece} (c : Class) → Small c → ChainFrom P E s a es → Neighbours x y es
       → x.status ≡ Free c → y.status ≡ Free c → down P x.address ≡ down P y.address → ⊥
@@ -124,10 +129,12 @@ module _ (P : ℕ) (pos : 0 < P) where
       let free₂ : IsFree t' = rw q is_free in
       f.merged (λ b. omega (arith, down_of P pos b, down_le P pos a, e.some)) free₁ free₂
   no_small c h (step e r) (later m) p q w = no_small c h r m p q w
+  no_small {E = E} {y = y} c h (stop {s = s} {a = a} _ _) x28 p q w = elim x28 [ ]
 
   cut_of : {E : ℕ} {s : Status} {a : ℕ} {es : List Piece} {x : Piece} → ChainFrom P E s a es → Last x es → x.status ≡ Free Large → x.size < P
   cut_of (step e r) last_one q = e.cut refl q
   cut_of (step e r) (last_later m) q = cut_of r m q
+  cut_of {E = E} (stop {s = s} {a = a} _ _) x16 q = elim x16 [ ]
 
   pub rules_of : {E : ℕ} {es : List Piece} → Chain P E es → SoundEntries P E es
   rules_of h =

@@ -47,10 +47,12 @@ tiles_from (tile r) = omega (arith, tiles_from r)
 pub mem_below : {E a : ℕ} {es : List Piece} {x : Piece} → Tiles E a es → Memᴰ x es → behind x ≤ E
 mem_below (tile {a = a} {z = z} t) (Memᴰ.head e) = omega (arith, tiles_from t, ap behind e)
 mem_below (tile t) (Memᴰ.tail h) = mem_below t h
+mem_below {E = E} (tiled {a = a} _) x9 = elim x9 [ ]
 
 pub entry_above : {E a : ℕ} {es : List Piece} {i : ℕ} {x : Piece} → Tiles E a es → EntryIs es i x → a ≤ x.address
 entry_above (tile r) entry_here = omega arith
 entry_above (tile r) (entry_later e) = omega (arith, entry_above r e)
+entry_above {E = E} {i = i} (tiled {a = a} _) x9 = elim x9 [ ]
 
 pub record Covered (es : List Piece) (v : ℕ) : Type 0 where
   pub place : ℕ

@@ -1,4 +1,6 @@
 // The running summary for the inspection sheet, worked out of the entries of a table.
+#![tactic(auto)]
+
 ghost use Rattle.std.specs.Prelude.{◌≡◌, ◌-◌, ◌*◌, ◌^◌, ◌≤◌, ◌<◌, pos, length};
 ghost use Rattle.pieces.specs.Words.{entry_words, entries};
 ghost use Rattle.sections.specs.Sections.{sections};
@@ -23,7 +25,7 @@ const THOUSAND: u64 = TEN * HUNDRED;
 const TEN_THOUSAND: u64 = TEN * THOUSAND;
 
 // The running summary. Managers 1, 2, 3 stand at 0, 1, 2: small metadata, small raw, large.
-#[derive(Drop)]
+#[derive(Clone, Copy)]
 pub struct Summary {
     // how many free sections a manager has
     pub sections: [u64; MANAGERS],

@@ -1,5 +1,7 @@
 // One step of the walk over the entries. The walk carries what is left of the page and a state that says what may follow, so that a small
 // entry costs one look into a packed number and a few comparisons: only a large entry that runs over a border costs a remainder.
+#![tactic(auto)]
+
 ghost use Rattle.std.specs.Prelude.{◌≡◌, ◌≤◌, ◌<◌};
 ghost use Rattle.pieces.specs.declared.Class.TheVariants.{Large};
 ghost use Rattle.pieces.specs.declared.Status.TheVariants.{Live, Free};
@@ -11,14 +13,14 @@ use pieces::{FREE_LARGE, LIVE_LARGE, Words};
 
 // Where the walk has come: behind an entry that ends at `at`, with `left` bytes to the first border above it. Inside a page the state is the
 // kind of that entry; at a border it is one of the two numbers below, since there only a free large entry says anything of the next one.
-#[derive(Drop)]
+#[derive(Clone, Copy)]
 pub struct Walk {
     pub at: u64,
     pub left: u64,
     pub state: u64,
 }
 
-#[derive(Drop)]
+#[derive(Clone, Copy)]
 pub enum Step {
     On(Walk),
     Broken,

@@ -1,5 +1,7 @@
 // Words, numbers of 64 bits, in bytes, the lowest byte first. Their eight bytes stand one after the other here, and not in a loop as in `little`, so that
 // the compiler makes one load or store of them.
+#![tactic(auto)]
+
 ghost use Rattle.std.specs.Prelude.{◌≡◌, ◌*◌, ◌≤◌, length};
 ghost use Rattle.little.specs.Little.{word_bytes, little, bytes_of, numbers, bytes_of_all};
 
