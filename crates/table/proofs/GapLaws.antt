@@ -63,21 +63,21 @@ gap_is P k a b m el eh = simp (el, eh)
 module _ (P : ℕ) (pos : 0 < P) where
   pub lo_here : (k : Class) (a : ℕ) → lo P k a a ≡ a
   lo_here k a =
-      elim (view k) [
+      elim (view k) as (λ k _. lo P k a a ≡ a) [
         | small s ↦ lo_small P a a s ∙ omega (arith, up_ge P pos a)
         | large ↦ lo_large P a a
       ]
 
   pub hi_here : (m : Class) (a : ℕ) → hi P a a m ≡ a
   hi_here m a =
-      elim (view m) [
+      elim (view m) as (λ m _. hi P a a m ≡ a) [
         | small s ↦ hi_small P a a s ∙ omega (arith, down_le P pos a)
         | large ↦ hi_large P a a
       ]
 
   pub lo_border : (k : Class) {a b : ℕ} → Border P a → a ≤ b → lo P k a b ≡ a
   lo_border k {a} {b} h l =
-      elim (view k) [
+      elim (view k) as (λ k _. lo P k a b ≡ a) [
         | small s ↦ lo_small P a b s ∙ omega (arith, up_of P pos h)
         | large ↦ lo_large P a b
       ]

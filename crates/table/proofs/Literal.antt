@@ -224,8 +224,8 @@ module _ (P : ℕ) (pos : 0 < P) where
   -- what an entry of status s before a has to do with the first of es
   data Pair (s : Status) (a : ℕ) : List Piece → Type 0 where
     pair_none : Pair s a []
-    pair_some : {n : ℕ} {t : Status} {es : List Piece} → (¬ Border P a → class_of s ≡ class_of t) → (¬ Border P a → IsFree s → IsFree t → ⊥)
-        → (s ≡ Free Large → t ≡ Free Large → ⊥) → Pair s a (piece a n t ∷ es)
+    pair_some : {x : Piece} {es : List Piece} → (¬ Border P a → class_of s ≡ class_of x.status)
+        → (¬ Border P a → IsFree s → IsFree x.status → ⊥) → (s ≡ Free Large → x.status ≡ Free Large → ⊥) → Pair s a (x ∷ es)
 
   pair_of : {E a n : ℕ} {s : Status} {es : List Piece} → Words (piece a n s ∷ es) → Tiles E (a + n) es → Pair s (a + n) es
   pair_of w (tiled e) = pair_none
