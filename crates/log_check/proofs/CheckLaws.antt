@@ -6,8 +6,6 @@
 --   sums_start, sums_up, sums_end   the sums over a block: at first, one word more, at last
 --   check_fails, check_second       the first half of the check differs; it does not, and the second half decides
 --   log_sums                        what specs/Check.antt says of them
---
--- Assumes nothing.
 use Prim.Native.Nat.{ℕ, zero, suc, ◌+◌, ◌-◌, ◌*◌, ◌%◌, ◌≤◌, ◌<◌}
 use mathlib.Core.Bool.{true, false}
 use mathlib.Core.List.{List, [], ◌∷◌}
