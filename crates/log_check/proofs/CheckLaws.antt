@@ -3,7 +3,7 @@
 --   sum_at a b              the sums a and b, each modulo 65,535
 --   shorts_from i block    the words of 16 bits from the word i on
 --   short_is               such a word by its two bytes
---   sums_start, sums_up, sums_end   the sums over a block: at first, one word more, at last
+--   sums_up, sums_end      the sums over a block: one word more, at last
 --   check_fails, check_second       the first half of the check differs; it does not, and the second half decides
 --   log_sums                        what specs/Check.antt says of them
 use Prim.Native.Nat.{ℕ, zero, suc, ◌+◌, ◌-◌, ◌*◌, ◌%◌, ◌≤◌, ◌<◌}
@@ -50,9 +50,6 @@ sums_next : (a b w : ℕ) (ws : List ℕ) → sums_from (sum_at a b) (w ∷ ws) 
 unfolding sums_from
 sums_next a b w ws =
     rw (left_mod a w, both_mod b (a + w)) refl
-
-pub sums_start : (block : List ℕ) → sums_from (sum_at 0 0) (shorts_from 0 block) ≡ sums_of (shorts_in block)
-sums_start block = refl
 
 pub sums_up : (block : List ℕ) (i a b w : ℕ) → i < shorts → w ≡ little (take short_bytes (drop (i * short_bytes) block))
     → sums_from (sum_at (a + w) (b + (a + w))) (shorts_from (i + 1) block) ≡ sums_from (sum_at a b) (shorts_from i block)

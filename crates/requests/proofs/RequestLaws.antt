@@ -1,27 +1,16 @@
 -- Laws of what a request names, comparison by comparison as the code makes them.
 --
--- In this order: the code of a type (type); the class of a request (class); the code of a manager (manager), and its class (manages); a size or
--- change of 0 (zero).
---
--- Assumes nothing.
+-- In this order: the class of a request (class); the class of a manager (manages).
 use Prim.Native.Nat.{ℕ, ◌≤◌, ◌<◌}
-use mathlib.Core.Bool.{true, ◌||◌}
 use mathlib.Core.Path.{◌≡◌, sym}
-use lib.Dec.{eqb}
 use borrow.Author.Tests.{le-leb, lt-leb, eq-eqb, ne_eqb}
 use Rattle.pages.proofs.Numbers.{split}
 use Rattle.pieces.proofs.PieceLaws.{large_small}
 use Rattle.pieces.specs.Pieces.{Small}
 use Rattle.pieces.specs.declared.Class.TheVariants.{SmallMetadata, SmallRaw, Large}
-use Rattle.requests.specs.Requests.{metadata_code, raw_code, large_code, typeb, class_for, managerb, class_of_manager}
+use Rattle.requests.specs.Requests.{metadata_code, raw_code, class_for, class_of_manager}
 
 -- ---- a request
-
-pub type_metadata : (t : ℕ) → t ≡ metadata_code → typeb t ≡ true
-type_metadata t e = rw (eq-eqb t metadata_code e)
-
-pub type_other : (t : ℕ) → (t ≡ metadata_code → ⊥) → typeb t ≡ eqb t raw_code
-type_other t e = rw (ne_eqb t metadata_code e)
 
 pub class_large : (P t s : ℕ) → P ≤ s → class_for P t s ≡ Large
 unfolding class_for
@@ -41,16 +30,6 @@ class_small P t s h = split P s (λ l. absurd (large_small h (sym (class_large P
 -- ---- a manager
 
 module _ (m : ℕ) where
-  pub manager_metadata : m ≡ metadata_code → managerb m ≡ true
-  manager_metadata h = rw (eq-eqb m metadata_code h)
-
-  pub manager_raw : (m ≡ metadata_code → ⊥) → m ≡ raw_code → managerb m ≡ true
-  manager_raw n h = rw (ne_eqb m metadata_code n, eq-eqb m raw_code h)
-
-  -- what the third code has still to say
-  pub manager_large : (m ≡ metadata_code → ⊥) → (m ≡ raw_code → ⊥) → managerb m ≡ eqb m large_code
-  manager_large n1 n2 = rw (ne_eqb m metadata_code n1, ne_eqb m raw_code n2)
-
   pub manages_metadata : m ≡ metadata_code → class_of_manager m ≡ SmallMetadata
   unfolding class_of_manager
   manages_metadata h = rw (eq-eqb m metadata_code h)
@@ -62,11 +41,3 @@ module _ (m : ℕ) where
   pub manages_large : (m ≡ metadata_code → ⊥) → (m ≡ raw_code → ⊥) → class_of_manager m ≡ Large
   unfolding class_of_manager
   manages_large n1 n2 = rw (ne_eqb m metadata_code n1, ne_eqb m raw_code n2)
-
--- ---- 0 asked
-
-pub zero_size : (z m : ℕ) → z ≡ 0 → (eqb z 0 || eqb m 0) ≡ true
-zero_size z m e = rw (eq-eqb z 0 e)
-
-pub zero_change : (z m : ℕ) → (z ≡ 0 → ⊥) → (eqb z 0 || eqb m 0) ≡ eqb m 0
-zero_change z m e = rw (ne_eqb z 0 e)
