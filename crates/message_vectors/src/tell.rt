@@ -63,7 +63,7 @@ pub fn label(k: u64) {
                           persist \n\
                           threshold \n\
                           page size \n\
-                          page_end_lem threshold \n\
+                          page-end threshold \n\
                           EOA \n\
                           the last small address \n\
                           bytes \n\

@@ -9,13 +9,13 @@
 --
 -- Not here: laws of sums, `/` and `%` (native.Mathlib.Nat), and of single tests (borrow.Author.Tests). Assumes nothing.
 use Prim.Native.Nat.{ℕ, ◌≤◌, ◌<◌}
-use mathlib.Core.Bool.{Bool, true, false, not, ◌&&◌}
+use mathlib.Core.Bool.{Bool, true, false, ◌&&◌}
 use mathlib.Core.Path.{◌≡◌, refl, sym, ◌∙◌}
 use native.Mathlib.Decide.{dec_le}
 use native.Mathlib.Nat.{lt_of_not-le, not-le_of_lt}
 use native.Mathlib.Omega.{arith}
 use lib.Dec.{leb}
-use borrow.Author.Tests.{leb-true, leb-false, le-leb, lt-leb, not-true, not-false}
+use borrow.Author.Tests.{leb-true, leb-false, le-leb, lt-leb}
 
 pub split {ℓ} : {X : Type ℓ} (a b : ℕ) → (a ≤ b → X) → (b < a → X) → X
 split a b f g = elim (dec_le a b) [ yes h ↦ f h | no h ↦ g (lt_of_not-le h) ]
@@ -36,11 +36,11 @@ pub and-false : (s : Bool) {t : Bool} → t ≡ false → (s && t) ≡ false
 and-false true e = e
 and-false false e = refl
 
-pub passes : {r t : Bool} → r ≡ t → not r ≡ false → t ≡ true
-passes {r} e h = sym e ∙ not-false r h
+pub passes : {r t : Bool} → r ≡ t → r ≡ true → t ≡ true
+passes e h = sym e ∙ h
 
-pub fails : {r t : Bool} → r ≡ t → not r ≡ true → t ≡ false
-fails {r} e h = sym e ∙ not-true r h
+pub fails : {r t : Bool} → r ≡ t → r ≡ false → t ≡ false
+fails e h = sym e ∙ h
 
 pub not_both : {t : Bool} → t ≡ true → t ≡ false → ⊥
 not_both e f = let z : ◌≡◌ {A = ℕ} 0 1 = cc in omega arith

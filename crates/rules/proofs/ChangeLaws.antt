@@ -99,6 +99,7 @@ module _ (P : ℕ) (pos : 0 < P) where
   room_from (step y r) last = omega arith
   room_from (step y r) (more q l) = omega arith
   room_from (step y r) (further f) = omega (arith, room_from r f)
+  room_from {E = E} {b = b} {n = n} {z = z} {m = m} (stop {s = s} {a = a} _ _) x7 = elim x7 [ ]
 
   pub resize_good : {E b n z a : ℕ} {m : Class} {s : Status} {es : List Piece} → Whole P m b z → ChainFrom P E s a es → Room b n z m es
       → GoodFrom P (class_of s) a (resize (record { address = b; size = n }) z (lives es))
@@ -112,3 +113,4 @@ module _ (P : ℕ) (pos : 0 < P) where
   resize_good {b = b} {n = n} w (step {t = Live c} {a = a} y r) (further f) =
       simp (ne_eqb a b (λ e. omega (arith, room_from r f, y.some))) (next (live_apart P pos y) (live_whole P pos y) (resize_good w r f))
   resize_good w (step {t = Free c} {n = n} y r) (further f) = good_widen n y.family (resize_good w r f)
+  resize_good {E = E} {b = b} {n = n} {z = z} {m = m} w (stop {s = s} {a = a} _ _) x11 = elim x11 [ ]

@@ -61,7 +61,7 @@ insert_between x {qs = qs} (each_more {x = y} {ps = ps} l g) h =
 -- ---- among good live pieces
 
 module _ (P : ℕ) (pos : 0 < P) where
-  pub good_at : {k : Class} {a : ℕ} (ps : List Piece) (p : Piece) (qs : List Piece) → GoodFrom P k a (ps ++ (p ∷ qs)) → a ≤ p.address
+  pub good_at : (ps : List Piece) {k : Class} {a : ℕ} (p : Piece) (qs : List Piece) → GoodFrom P k a (ps ++ (p ∷ qs)) → a ≤ p.address
   good_at [] p qs (next d w g) = apart_le P pos d
   good_at (x ∷ ps) p qs (next {z = n} d w g) = omega (arith, apart_le P pos d, good_at ps p qs g)
 
@@ -72,11 +72,11 @@ module _ (P : ℕ) (pos : 0 < P) where
       let h : b < c = omega (arith, apart_le P pos d) in
       each_more {x = piece c z (Live m)} h (above_good (omega arith) g)
 
-  pub below_good : {k : Class} {a : ℕ} (ps : List Piece) (p : Piece) (qs : List Piece) → GoodFrom P k a (ps ++ (p ∷ qs)) → Below p.address ps
+  pub below_good : (ps : List Piece) {k : Class} {a : ℕ} (p : Piece) (qs : List Piece) → GoodFrom P k a (ps ++ (p ∷ qs)) → Below p.address ps
   below_good [] p qs g = each_none
   below_good (x ∷ ps) p qs (next d w g) = each_more {x = x} (omega (arith, good_at ps p qs g)) (below_good ps p qs g)
 
-  rest_above : {k : Class} {a : ℕ} (ps : List Piece) (p : Piece) (qs : List Piece) → GoodFrom P k a (ps ++ (p ∷ qs)) → Above p.address qs
+  rest_above : (ps : List Piece) {k : Class} {a : ℕ} (p : Piece) (qs : List Piece) → GoodFrom P k a (ps ++ (p ∷ qs)) → Above p.address qs
   rest_above [] p qs (next d w g) = above_good (omega (arith, w.some)) g
   rest_above (x ∷ ps) p qs (next d w g) = rest_above ps p qs g
 

@@ -77,7 +77,7 @@ module _ (P : ℕ) (pos : 0 < P) where
       ∙ (sym (ap (λ (l : List Piece). l ++ (piece f.at f.bytes (Live f.class) ∷ front_from P f.class (f.at + f.bytes) f.others)) g)
       ∙ ap (front_from P k a) (sym f.is))
 
-  front_canon : {E : ℕ} {s : Status} {a : ℕ} {xs : List Piece} (ys : List Piece) → EndsLive xs → ChainFrom P E s a (xs ++ ys)
+  front_canon : {E : ℕ} {xs : List Piece} {s : Status} {a : ℕ} (ys : List Piece) → EndsLive xs → ChainFrom P E s a (xs ++ ys)
       → xs ≡ front_from P (class_of s) a (lives xs)
   unfolding lives front_from
   front_canon ys ends_none h = refl
@@ -93,8 +93,8 @@ module _ (P : ℕ) (pos : 0 < P) where
     at : ℕ
     sound : ChainFrom P E status at es
 
-  tail_of : {E : ℕ} {s : Status} {a : ℕ} (xs : List Piece) {ys : List Piece} → ChainFrom P E s a (xs ++ ys) → Tail E ys
-  tail_of {s = s} {a = a} [] h = record { status = s; at = a; sound = h }
+  tail_of : {E : ℕ} (xs : List Piece) {s : Status} {a : ℕ} {ys : List Piece} → ChainFrom P E s a (xs ++ ys) → Tail E ys
+  tail_of [] {s = s} {a = a} h = record { status = s; at = a; sound = h }
   tail_of (x ∷ xs) (step y r) = tail_of xs r
 
 module _ (P : ℕ) (pos : 0 < P) where
@@ -131,7 +131,7 @@ module _ (P : ℕ) (pos : 0 < P) where
       let h : n.address < b = omega (arith, apart_le P pos d) in
       rw (other_name n (piece b z (Live m)) (λ e. omega arith), remove_none n (omega arith) g)
 
-  pub remove_at : {k : Class} {a : ℕ} (n : Name) (ps : List Piece) (p : Piece) (qs : List Piece) → GoodFrom P k a (ps ++ (p ∷ qs)) → names n p ≡ true
+  pub remove_at : (n : Name) (ps : List Piece) {k : Class} {a : ℕ} (p : Piece) (qs : List Piece) → GoodFrom P k a (ps ++ (p ∷ qs)) → names n p ≡ true
       → remove n (ps ++ (p ∷ qs)) ≡ ps ++ qs
   unfolding remove
   remove_at n [] p qs (next {b = b} d w g) e =
@@ -140,7 +140,7 @@ module _ (P : ℕ) (pos : 0 < P) where
       let h : b < n.address = omega (arith, good_at P pos ps p qs g, named_address n p e, w.some) in
       rw (other_name n x (λ i. omega arith), remove_at n ps p qs g e)
 
-  pub resize_at : {k : Class} {a : ℕ} (n : Name) (z : ℕ) (ps : List Piece) (p : Piece) (qs : List Piece) → GoodFrom P k a (ps ++ (p ∷ qs))
+  pub resize_at : (n : Name) (z : ℕ) (ps : List Piece) {k : Class} {a : ℕ} (p : Piece) (qs : List Piece) → GoodFrom P k a (ps ++ (p ∷ qs))
       → names n p ≡ true → resize n z (ps ++ (p ∷ qs)) ≡ ps ++ (piece p.address z p.status ∷ qs)
   unfolding resize
   resize_at n z [] p qs g e = rw e

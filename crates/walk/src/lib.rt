@@ -60,7 +60,7 @@ fn small_follows(state: u64, kind: u64) -> bool
 }
 
 // What is left of the page behind so many bytes.
-fn left_behind_lem(p: u64, left: u64, size: u64) -> u64
+fn left_behind(p: u64, left: u64, size: u64) -> u64
     requires { 0 < p }
     ensures { result ≡ left_behind p left size }
 {
@@ -194,7 +194,7 @@ fn large_step(p: u64, end: u64, walk: Walk, size: u64, kind: u64, last: bool) ->
     if !large_holds(p, walk.state, kind, size, last) {
         return Step::Broken;
     }
-    Step::On(behind(p, walk.at + size, left_behind_lem(p, walk.left, size), kind))
+    Step::On(behind(p, walk.at + size, left_behind(p, walk.left, size), kind))
 }
 
 // The walk behind the next entry, if that keeps the rules.
