@@ -108,12 +108,12 @@ full_message f b {h} {s} six_small six_large n e₁ e₂ e₃ =
 
 -- ---- read part by part
 
-pub fields_read : (b vs : List ℕ) {strategy persist threshold page page_end_lem eoa : ℕ} {small large : List ℕ}
+pub fields_read : (b vs : List ℕ) {strategy persist threshold page page_end eoa : ℕ} {small large : List ℕ}
     → strategy ≡ value_at strategy_at persist_at b
     → persist ≡ value_at persist_at threshold_at b
     → threshold ≡ value_at threshold_at page_at b
     → page ≡ value_at page_at page_end_at b
-    → page_end_lem ≡ value_at page_end_at eoa_at b
+    → page_end ≡ value_at page_end_at eoa_at b
     → eoa ≡ value_at eoa_at head_length b
     → small ≡ take types vs
     → large ≡ drop types vs
@@ -122,21 +122,21 @@ pub fields_read : (b vs : List ℕ) {strategy persist threshold page page_end_le
       persist = persist;
       threshold = threshold;
       page = page;
-      page_end = page_end_lem;
+      page_end = page_end;
       eoa = eoa;
       small = small;
       large = large;
     }
     ≡ head_with vs b
 unfolding head_with
-fields_read b vs strategy persist threshold page page_end_lem eoa small large =
+fields_read b vs strategy persist threshold page page_end eoa small large =
     λ i.
     record {
       strategy = strategy i;
       persist = persist i;
       threshold = threshold i;
       page = page i;
-      page_end = page_end_lem i;
+      page_end = page_end i;
       eoa = eoa i;
       small = small i;
       large = large i;

@@ -2,8 +2,6 @@
 --
 -- In this order: how many addresses stand behind the head, and how long the message is, without and with persistence; `refused_number`, no
 -- refusal has the number of success; where the part behind the message starts. No proof above this file opens `address_count`.
---
--- Assumes nothing.
 use Prim.Native.Nat.{ℕ, ◌+◌, ◌*◌, ◌≤◌, ◌<◌}
 use mathlib.Core.Path.{◌≡◌, refl}
 use native.Mathlib.Decide.{ℕ_discrete}

@@ -3,7 +3,7 @@
 -- In this order: addresses that are all undefined; what the persist byte allows; the rules of the fields. Each definition has one law for
 -- each of its outcomes.
 --
--- Not here: the rules as facts (message_promises/proofs/RuleLaws.antt), laws of single tests (borrow.Author.Tests). Assumes nothing.
+-- Not here: the rules as facts (message_promises/proofs/RuleLaws.antt), laws of single tests (borrow.Author.Tests).
 use Prim.Native.Nat.{ℕ, ◌+◌, ◌≤◌, ◌<◌}
 use mathlib.Core.Bool.{true, false}
 use mathlib.Core.List.{List}

@@ -13,7 +13,7 @@
 --   refused_read n        refused with n: no fields
 --   follows_at o          where the part behind a message that was read as o starts: at the front on a refusal
 --
--- Assumes nothing. Laws are in proofs/FieldLaws.antt.
+-- Laws are in proofs/FieldLaws.antt.
 use Rattle.std.specs.Prelude.{cond, ◌≡◌, ℕ, ◌+◌, ◌-◌, ◌*◌, ◌^◌, ◌<◌, eqb, length, replicate}
 use Rattle.little.specs.Little.{byte_values, Below}
 use Rattle.message_fields.specs.declared.Fields.{Fields}
@@ -36,7 +36,7 @@ pub record Held (f : Fields) : Type 0 where
   pub persist : f.persist < byte_values ^ (threshold_at - persist_at)
   pub threshold : f.threshold < byte_values ^ (page_at - threshold_at)
   pub page : f.page < byte_values ^ (page_end_at - page_at)
-  pub page_end_lem : f.page_end < byte_values ^ (eoa_at - page_end_at)
+  pub page_end : f.page_end < byte_values ^ (eoa_at - page_end_at)
   pub eoa : f.eoa < byte_values ^ (head_length - eoa_at)
   pub six_small : length f.small ≡ types
   pub small : Below address_width f.small

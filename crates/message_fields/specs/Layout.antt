@@ -8,8 +8,6 @@
 --   types, address_width   how many addresses the small and the large managers have each, and the bytes of one
 --   addresses_length       the bytes of six addresses
 --   most_addresses         how many addresses there are in all
---
--- Assumes nothing.
 use Rattle.std.specs.Prelude.{ℕ, ◌+◌, ◌*◌}
 
 abbrev pub version_at : ℕ

@@ -6,7 +6,7 @@
 --   addressesb p s l      whether the addresses s and l are such as the persist byte p allows
 --   legalb f              whether the fields f keep every rule
 --
--- Assumes nothing. Laws are in proofs/LegalLaws.antt.
+-- Laws are in proofs/LegalLaws.antt.
 use Rattle.std.specs.Prelude.{Bool, true, cond, ◌&&◌, List, [], ◌∷◌, ℕ, leb, eqb}
 use Rattle.pages.specs.Pages.{page_sizeb}
 use Rattle.message_fields.specs.declared.Fields.{Fields}

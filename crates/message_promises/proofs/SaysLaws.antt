@@ -107,7 +107,7 @@ says_fields b h e =
       persist = refl;
       threshold = refl;
       page = refl;
-      page_end_lem = refl;
+      page_end = refl;
       eoa = refl;
       small = said_small (value_at persist_at threshold_at b) b;
       large = said_large (value_at persist_at threshold_at b) b;
@@ -116,7 +116,7 @@ says_fields b h e =
 pub fields_said : {f : Fields} {b : List ℕ} → Says f b → f ≡ fields_of b
 fields_said {f} {b} s =
     let p = value_at persist_at threshold_at b in
-    fields_read b (all_at p b) s.strategy s.persist s.threshold s.page s.page_end_lem s.eoa
+    fields_read b (all_at p b) s.strategy s.persist s.threshold s.page s.page_end s.eoa
     (small_said p b (rw s.persist at s.small))
     (large_said p b (rw s.persist at s.large))
 
@@ -129,7 +129,7 @@ held_fields b h =
       persist = value_lt persist_at threshold_at b h;
       threshold = value_lt threshold_at page_at b h;
       page = value_lt page_at page_end_at b h;
-      page_end_lem = value_lt page_end_at eoa_at b h;
+      page_end = value_lt page_end_at eoa_at b h;
       eoa = value_lt eoa_at head_length b h;
       six_small = length_small p b;
       small = below_take address_width types (all_at p b) (below_all p b h);
@@ -185,7 +185,7 @@ module _ (f : Fields) (b : List ℕ) (h : Held f) where
         persist = value_of persist_at threshold_at f.persist b h.persist s₂.1;
         threshold = value_of threshold_at page_at f.threshold b h.threshold s₃.1;
         page = value_of page_at page_end_at f.page b h.page s₄.1;
-        page_end_lem = value_of page_end_at eoa_at f.page_end b h.page_end_lem s₅.1;
+        page_end = value_of page_end_at eoa_at f.page_end b h.page_end s₅.1;
         eoa = value_of eoa_at head_length f.eoa b h.eoa s₆.1;
         small = rw small (said_small f.persist b);
         large = rw large (said_large f.persist b);
@@ -207,7 +207,7 @@ head_front {f} {b} h s =
     let e₃ = front_number b h persist_at threshold_at (omega arith) (omega arith) e₂ s.persist in
     let e₄ = front_number b h threshold_at page_at (omega arith) (omega arith) e₃ s.threshold in
     let e₅ = front_number b h page_at page_end_at (omega arith) (omega arith) e₄ s.page in
-    let e₆ = front_number b h page_end_at eoa_at (omega arith) (omega arith) e₅ s.page_end_lem in
+    let e₆ = front_number b h page_end_at eoa_at (omega arith) (omega arith) e₅ s.page_end in
     front_number b h eoa_at head_length (omega arith) (omega arith) e₆ s.eoa
 
 pub said_message : {f : Fields} {b : List ℕ} → Bytes b → Says f b → message_of f ≡ take (length_of f) b

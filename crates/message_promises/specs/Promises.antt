@@ -63,7 +63,7 @@ pub record Says (f : Fields) (b : List ℕ) : Type 0 where
   pub persist : f.persist ≡ value_at persist_at threshold_at b
   pub threshold : f.threshold ≡ value_at threshold_at page_at b
   pub page : f.page ≡ value_at page_at page_end_at b
-  pub page_end_lem : f.page_end ≡ value_at page_end_at eoa_at b
+  pub page_end : f.page_end ≡ value_at page_end_at eoa_at b
   pub eoa : f.eoa ≡ value_at eoa_at head_length b
   pub small : Addresses f.persist small_at f.small b
   pub large : Addresses f.persist large_at f.large b

@@ -20,7 +20,7 @@ held c =
       persist = search rules;
       threshold = search rules;
       page = search rules;
-      page_end_lem = search rules;
+      page_end = search rules;
       eoa = search rules;
       six_small = search rules;
       small = λ i. let e : Fits w64 (get_or c.args.fields.small i 0) = search rules in e.fits;
