@@ -4,7 +4,6 @@
 -- what the walk holds is kept or beaten, and comes from an entry that fits, as `best_found`; `best_place`; what fits, spelled out; `small_place` and
 -- `large_place`.
 --
--- Assumes nothing.
 use mathlib.Core.Path.{◌≡◌, refl, sym, ap, ◌∙◌}
 use mathlib.Core.Bool.{Bool, true, false, cond, ◌&&◌}
 use mathlib.Core.List.{List, [], ◌∷◌, Memᴰ}
@@ -47,6 +46,7 @@ one_entry f (tile r) (entry_later p) (entry_later q) e =
     next_one : Chosen → Chosen
     next_one (At i x) = At (suc i) x
     next_one Nothing = Nothing
+one_entry {E = E} {i = i} {j = j} {y = y} f (Rattle.table.specs.Sound.tiled {a = a} _) x18 _ e = elim x18 [ ]
 
 -- ---- two best places are one
 
@@ -128,6 +128,7 @@ module _ (fits : Piece → Bool) where
       rw e (best_keeps es (i + 1) (best_of fits i b (piece a z t)) (piece a z t) (best_of_beats i b (piece a z t) u (rw e at ok)))
   best_beats i b y (tile {a = a} {z = z} {t = t} r) u (Memᴰ.tail m) ok =
       best_beats (i + 1) (best_of fits i b (piece a z t)) y r (best_of_under i b (piece a z t) u) m ok
+  best_beats {E = E} i b y (Rattle.table.specs.Sound.tiled {a = a} _) u x11 ok = elim x11 [ ]
 
   -- where the place r, that the walk over es from entry i on finds, comes from
   data From (es : List Piece) (i : ℕ) (b : Chosen) : Chosen → Type 0 where

@@ -3,7 +3,7 @@
 -- In this order: room, by the tests that the code makes; what fits, by whether the entry is free and of the class; an entry that fits has the bytes; the walk's
 -- step, its end, and that an exact fit stays the best.
 --
--- Not here: that the walk finds the best place (BestLaws.antt). Assumes nothing.
+-- Not here: that the walk finds the best place (BestLaws.antt).
 use mathlib.Core.Path.{◌≡◌, refl, ap, ◌∙◌}
 use mathlib.Core.Bool.{Bool, true, false, and-false}
 use mathlib.Core.List.{List, [], ◌∷◌}

@@ -3,7 +3,6 @@
 --   PlaceIn w n i b room     room bytes from b on lie in the free entry i of the n entries of w
 --   section_in, page_in      so they do where the place for them is Section i b, or Page i b
 --
--- Assumes nothing.
 use Prim.Native.Nat.{ℕ, ◌+◌, ◌≤◌, ◌<◌}
 use mathlib.Core.List.{List}
 use mathlib.Core.Path.{◌≡◌, refl, ap, ◌∙◌}

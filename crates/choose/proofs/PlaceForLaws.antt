@@ -4,7 +4,6 @@
 --   large_section, large_end     the place of a large piece, if one was found, and if none was
 --   small_section, small_page    the place of a small piece, likewise
 --
--- Assumes nothing.
 use mathlib.Core.Path.{◌≡◌, sym, ap, ◌∙◌}
 use mathlib.Core.List.{List}
 use Prim.Native.Nat.{ℕ, ◌+◌, ◌<◌, ◌^◌}

@@ -9,7 +9,7 @@
 --   held_first, held_last          before the first entry, and behind the last
 --   Turn, turn                     what a turn makes of them: an entry is passed, or asked for its room; it has none, is taken, or is an exact fit
 --
--- Not here: laws of what fits and of the best of a list (ChooseLaws.antt). Assumes nothing.
+-- Not here: laws of what fits and of the best of a list (ChooseLaws.antt).
 use Prim.Native.Nat.{ℕ, ◌+◌, ◌-◌, ◌≤◌, ◌<◌}
 use mathlib.Core.Bool.{Bool, true, false}
 use mathlib.Core.List.{List}

@@ -17,7 +17,7 @@
 --   FitsLarge P s x        x is free large, at a of z bytes, and b + s <= a + z for the first multiple b of P not below a
 --   SmallPlace, LargePlace the walk with fits_in finds the best place by these
 --
--- Assumes nothing. `BestPlace`, `SmallPlace` and `LargePlace` are proved in proofs/BestLaws.antt; laws of the walk are in proofs/ChooseLaws.antt.
+-- `BestPlace`, `SmallPlace` and `LargePlace` are proved in proofs/BestLaws.antt; laws of the walk are in proofs/ChooseLaws.antt.
 -- The numbers that the code's walk holds are in Walk.antt.
 use Rattle.std.specs.Prelude.{◌≡◌, Bool, true, cond, ◌&&◌, ℕ, ◌+◌, ◌≤◌, ◌<◌, leb, ltb}
 use mathlib.Core.List.{List, [], ◌∷◌, Memᴰ}

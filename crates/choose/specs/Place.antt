@@ -9,7 +9,7 @@
 --   place_address E q     the address of the place q, in a file that ends at E
 --   place_entry n q       the entry before which a piece at q stands, of n entries
 --
--- Assumes nothing. What the best section is, is said twice in Choose.antt.
+-- What the best section is, is said twice in Choose.antt.
 use Rattle.std.specs.Prelude.{ℕ, Bool, true, false, List}
 use Rattle.pages.specs.Pages.{up}
 use Rattle.pieces.specs.declared.Class.{Class}

@@ -6,7 +6,7 @@
 --   ChooseFits P w n        what the walk asks of the first n entries of w, as every sound table has it: a word that is no kind would read as
 --                           free large, and an entry of no_size bytes would be taken for one that does not fit
 --
--- Assumes nothing. Laws that tie them to Choose.antt are in proofs/WalkLaws.antt.
+-- Laws that tie them to Choose.antt are in proofs/WalkLaws.antt.
 use Rattle.std.specs.Prelude.{ℕ, ◌*◌, ◌^◌, ◌≤◌, ◌<◌, cond, ◌&&◌, List, eqb, leb, ltb, length}
 use Rattle.pieces.specs.Pieces.{Kind}
 use Rattle.pieces.specs.Words.{entry_words, kind_at, entry_at}

@@ -24,6 +24,7 @@ const NO_SIZE: u64 = 9223372036854775808;
 
 // An entry's size, if it is of the wanted kind and has s bytes. Kinds and sizes come in no order that a processor could foresee: as a choice
 // between two numbers this takes no jump.
+#[tactic(auto, unfolding(crate::specs::Walk::size_if_fits))]
 fn size_if_fits(kind: u64, wanted: u64, size: u64, s: u64) -> u64
     ensures { result ≡ size_if_fits kind wanted size s }
 {
