@@ -4,7 +4,6 @@
 -- below the end, and none one beyond it; the statement FindsRight of specs/Find.antt, and what a caller learns from an answer.
 --
 -- Not here: the way to the entry (WalkLaws.antt).
--- Assumes nothing.
 use Prim.Native.Nat.{ℕ, suc, ◌+◌, ◌≤◌, ◌<◌}
 use mathlib.Core.Bool.{Bool, true, false}
 use mathlib.Core.List.{List, Memᴰ}
@@ -71,6 +70,7 @@ module _ (a z : ℕ) where
   by_entry (tile r) (entry_later {x = x} {y = y} {i = k} e) h i =
       let s : i + 1 + k ≡ i + suc k = omega arith in
       rw (lies_behind a y (omega (arith, entry_above r e, h.from))) (by_entry r e h (i + 1) ∙ ap (λ (m : ℕ). told_of a z m x) s)
+  by_entry {E = E} {k = k} (tiled _) x12 h i = elim x12 [ ]
 
   beyond : {E b : ℕ} {es : List Piece} → Tiles E b es → E ≤ a → (i : ℕ) → find_in a z i es ≡ BeyondEnd
   unfolding find_in

@@ -9,8 +9,6 @@
 --   at_most                   what is less than 2 ^ k can be halved k times at most
 --   fewer                     a half, or less, can be halved fewer times than the whole
 --   eleven                    the most entries that a table has room for can be halved eleven times at most
---
--- Assumes nothing.
 use Prim.Native.Nat.{ℕ, zero, suc, ◌+◌, ◌/◌, ◌^◌, ◌≤◌, ◌<◌}
 use mathlib.Core.List.{List}
 use mathlib.Core.Path.{◌≡◌}

@@ -4,8 +4,6 @@
 --   all_passed, none_left     entries in which the address does not lie are passed; if it lies in none that are left, it is beyond the end
 --   none_started              no entry starts at or before the address
 --   last_start, found_last, behind_last    the last that does: it starts there, the address lies in it, or in none
---
--- Assumes nothing.
 use Prim.Native.Nat.{ℕ, zero, suc, ◌+◌, ◌-◌, ◌≤◌, ◌<◌}
 use mathlib.Core.Bool.{false}
 use mathlib.Core.List.{List}
