@@ -5,7 +5,6 @@
 --   chain_order                    the entries of a table are in address order
 --   sections_right                 the statement
 --
--- Assumes nothing.
 use mathlib.Core.Bool.{Bool, true, false, cond}
 use mathlib.Core.List.{List, [], ◌∷◌, Memᴰ}
 use mathlib.Core.Path.{◌≡◌, refl, sym, ap, ◌∙◌}

@@ -7,7 +7,7 @@
 -- In this order: one entry more (passed, count); how many sections there can be (few); one pair more (writing); the whole, refused and done
 -- (listed).
 --
--- Not here: laws of lists (lib.ListN, lib.Seq), and of a table's entries (pieces' WordLaws). Assumes nothing.
+-- Not here: laws of lists (lib.ListN, lib.Seq), and of a table's entries (pieces' WordLaws).
 use Prim.Native.Nat.{ℕ, suc, ◌+◌, ◌-◌, ◌*◌, ◌≤◌, ◌<◌}
 use mathlib.Core.Bool.{Bool, true, false, cond}
 use mathlib.Core.List.{List, [], ◌∷◌, ◌++◌, append-nil}

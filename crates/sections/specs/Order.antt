@@ -4,7 +4,6 @@
 --   SectionsOf k es xs    xs are the free entries of class k among es, all of them and no other, in address order
 --   SectionsRight         of a sound table `sections` (Sections.antt) are these
 --
--- Assumes nothing.
 use mathlib.Core.List.{List, [], ◌∷◌, Memᴰ}
 use Rattle.std.specs.Prelude.{◌≡◌, ℕ, ◌<◌}
 use Rattle.pieces.specs.Words.{entries}

@@ -8,7 +8,7 @@
 --   listed_in v xs        the sections xs, written into the words v: too short a slice, or their count, with the pairs in front and nothing
 --                         changed behind them
 --
--- Assumes nothing. Laws are in proofs/SectionLaws.antt.
+-- Laws are in proofs/SectionLaws.antt.
 use Rattle.std.specs.Prelude.{cond, List, [], ◌∷◌, ◌++◌, ℕ, ◌*◌, ltb, length, drop}
 use Rattle.pieces.specs.Pieces.{free_of}
 use Rattle.pieces.specs.declared.Class.{Class}
