@@ -3,7 +3,7 @@
 -- In this order: what is read, by the tests of the code, and that one of its outcomes holds; where the part behind it starts; what is
 -- written; what a write did. `reading` and `written` have one law for each of their outcomes, and no proof above this file opens them.
 --
--- Not here: the rules of the fields as facts (message_promises/proofs/RuleLaws.antt). Assumes nothing.
+-- Not here: the rules of the fields as facts (message_promises/proofs/RuleLaws.antt).
 use Prim.Native.Nat.{ℕ, ◌≤◌, ◌<◌, zero-le}
 use mathlib.Core.Bool.{Bool, true, false}
 use mathlib.Core.List.{List, ◌++◌}

@@ -9,7 +9,7 @@
 --   written f b           what a write of the fields f into the bytes b leaves
 --   Wrote f b o           a write of f into b left o; f is held, so that the round trip (`message_promises`) asks nothing more
 --
--- Assumes nothing. What is proved of these is in message_promises/specs/Promises.antt. Not here: the fields, the answers with their numbers and where the part
+-- What is proved of these is in message_promises/specs/Promises.antt. Not here: the fields, the answers with their numbers and where the part
 -- behind a message starts (message_fields/specs), the fields in bytes (message_bytes/specs).
 use Rattle.std.specs.Prelude.{◌≡◌, cond, not, List, ◌++◌, ℕ, ltb, eqb, length, drop}
 use Rattle.little.specs.Little.{value_at}

@@ -2,7 +2,7 @@
 --
 -- In this order: how long the parts are; how they are laid one behind the other; how they are read; how long the message is by its head.
 --
--- Not here: laws of the addresses behind a head (TailLaws), of numbers in bytes (little/proofs/LittleLaws.antt). Assumes nothing.
+-- Not here: laws of the addresses behind a head (TailLaws), of numbers in bytes (little/proofs/LittleLaws.antt).
 use Prim.Native.Nat.{ℕ, ◌-◌, ◌≤◌}
 use mathlib.Core.List.{List, [], ◌++◌, append-nil, append_assoc}
 use mathlib.Core.Path.{◌≡◌, refl, sym, ap, ◌∙◌}
@@ -184,6 +184,6 @@ module _ (b : List ℕ) where
   unfolding head_with
   head_without e = length_without (head_fields b) e
 
-  pub head_with_lem : (value_at persist_at threshold_at b ≡ 0 → ⊥) → length_of (head_fields b) ≡ full_length
+  pub head_with_addresses : (value_at persist_at threshold_at b ≡ 0 → ⊥) → length_of (head_fields b) ≡ full_length
   unfolding head_with
-  head_with_lem n = length_with (head_fields b) n
+  head_with_addresses n = length_with (head_fields b) n

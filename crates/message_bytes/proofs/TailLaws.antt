@@ -3,7 +3,7 @@
 -- In this order: no addresses, and all of them; how many addresses and bytes there are, and how large; the address at a place; what is laid is
 -- read, and what is read is laid.
 --
--- Not here: laws of numbers in bytes (little/proofs/LittleLaws.antt). Assumes nothing.
+-- Not here: laws of numbers in bytes (little/proofs/LittleLaws.antt).
 use Prim.Native.Nat.{ℕ, ◌+◌, ◌-◌, ◌*◌, ◌≤◌, ◌<◌}
 use mathlib.Core.List.{List, [], ◌++◌, append-nil}
 use mathlib.Core.Path.{◌≡◌, refl, sym, ap, ◌∙◌}

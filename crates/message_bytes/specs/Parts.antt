@@ -5,7 +5,7 @@
 --   fields_of b            all fields as the bytes b have them, whether legal or not
 --   head_of f, message_of f the bytes of f up to the addresses, and all of them
 --
--- Assumes nothing. Laws are in proofs/PartLaws.antt.
+-- Laws are in proofs/PartLaws.antt.
 use Rattle.std.specs.Prelude.{List, ◌++◌, ℕ, ◌-◌, take, drop}
 use Rattle.little.specs.Little.{bytes_of, value_at}
 use Rattle.message_bytes.specs.Tail.{absent, addresses_at, tail_of}

@@ -5,7 +5,7 @@
 --   addresses_at at k b   all addresses of a message: the k that the bytes b have from the place `at` on, and for the others absent ones
 --   tail_of k vs          the first k of the addresses vs in bytes
 --
--- Assumes nothing. Laws are in proofs/TailLaws.antt.
+-- Laws are in proofs/TailLaws.antt.
 use Rattle.std.specs.Prelude.{List, ◌++◌, ℕ, ◌-◌, take, drop, replicate}
 use Rattle.little.specs.Little.{numbers, bytes_of_all}
 use Rattle.message_fields.specs.Layout.{types, address_width, most_addresses}

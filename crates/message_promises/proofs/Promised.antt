@@ -1,7 +1,7 @@
 -- The theorems of specs/Promises.antt: `lengths`, `read_exact`, `rest_exact`, `write_exact`, `acceptance`, `round_trip` and `one_meaning`, in this order.
 --
 -- Each exactness goes by the number: a row fixes the test that the definition makes, and each outcome of the tests gives its row. Uniqueness
--- follows from exactness, since the definitions give one number, and a number belongs to one answer. Assumes nothing.
+-- follows from exactness, since the definitions give one number, and a number belongs to one answer.
 use Prim.Native.Nat.{ℕ, ◌+◌, ◌≤◌, ◌<◌}
 use mathlib.Core.Bool.{Bool, true, false, cond}
 use mathlib.Core.List.{List, ◌++◌}
@@ -17,10 +17,10 @@ use Rattle.message.proofs.AnswerLaws.{follows_refused, follows_done, write_field
 use Rattle.message_promises.proofs.RuleLaws.{legal_true, true_legal, false_legal, legal_head, head_legal, head_broken, legal_absent}
 use Rattle.message_promises.proofs.SaysLaws.{says_fields, fields_said, held_fields, message_said, said_message}
 use Rattle.message.specs.Message.{reading, following, WriteOutcome, write_said, written}
-use Rattle.message_promises.specs.Promises.{Legal, Says, NoMessage, HeadKept, ReadRow, too_short, other_version_lem, broken_field_lem, no_addresses, done}
+use Rattle.message_promises.specs.Promises.{Legal, Says, NoMessage, HeadKept, ReadRow, too_short, another_version, field_broken, no_addresses, done}
 use Rattle.message_promises.specs.Promises.{RestRow, whole, behind, WriteRow}
 use Rattle.message_promises.specs.Promises.{Lengths, ReadExact, RestExact, WriteExact, Message, Acceptance, RoundTrip, OneMeaning}
-use Rattle.message_bytes.proofs.PartLaws.{length_message, length_by_head, head_without, head_with_lem}
+use Rattle.message_bytes.proofs.PartLaws.{length_message, length_by_head, head_without, head_with_addresses}
 use Rattle.message_bytes.specs.Parts.{head_with, head_fields, fields_of, message_of}
 use Rattle.message_fields.proofs.FieldLaws.{length_by_count, length_without, length_with}
 use Rattle.message_fields.specs.Fields.{number_of, version, length_of, Held, no_fields, ReadOutcome, read_said, refused_read}
@@ -97,25 +97,25 @@ cut_row : (b : List ℕ) → head_length ≤ length b → value_at version_at st
     → ReadRow b slice_too_short no_fields
 cut_row b h v k m =
     split 1 (value_at persist_at threshold_at b)
-    (λ p. no_addresses refl refl h v k p (rw (head_with_lem b (λ z. omega arith)) at m))
+    (λ p. no_addresses refl refl h v k p (rw (head_with_addresses b (λ z. omega arith)) at m))
     (λ p. let z : value_at persist_at threshold_at b ≡ 0 = omega arith in absurd (omega (arith, head_without b z)))
 
 reading_row : (b : List ℕ) → ReadRow b (reading b).refusal (reading b).fields
 reading_row b =
     read_cases b
     (λ h. rw (read_short b h) (too_short refl refl h))
-    (λ h n. rw (read_version b h n) (other_version_lem refl refl h n))
-    (λ h v e. rw (read_field b h v e) (broken_field_lem refl refl h v (λ k. not_both (head_legal b k) e)))
+    (λ h n. rw (read_version b h n) (another_version refl refl h n))
+    (λ h v e. rw (read_field b h v e) (field_broken refl refl h v (λ k. not_both (head_legal b k) e)))
     (λ h v e m. rw (read_cut b h v e m) (cut_row b h v (legal_head b e) m))
     (λ h v e m. rw (read_done b h v e m) (done refl (whole_says b v m) (whole_legal b v m e)))
 
 row_reading : (b : List ℕ) (o : ReadOutcome) → ReadRow b o.refusal o.fields → o ≡ reading b
 row_reading b o (too_short n g h) = (λ i. record { refusal = n i; fields = g i }) ∙ sym (read_short b h)
-row_reading b o (other_version_lem n g h v) = (λ i. record { refusal = n i; fields = g i }) ∙ sym (read_version b h v)
-row_reading b o (broken_field_lem n g h v m) =
+row_reading b o (another_version n g h v) = (λ i. record { refusal = n i; fields = g i }) ∙ sym (read_version b h v)
+row_reading b o (field_broken n g h v m) =
     (λ i. record { refusal = n i; fields = g i }) ∙ sym (read_field b h v (head_broken b m))
 row_reading b o (no_addresses n g h v k p m) =
-    (λ i. record { refusal = n i; fields = g i }) ∙ sym (read_cut b h v (head_legal b k) (rw (head_with_lem b (λ z. omega arith)) m))
+    (λ i. record { refusal = n i; fields = g i }) ∙ sym (read_cut b h v (head_legal b k) (rw (head_with_addresses b (λ z. omega arith)) m))
 row_reading b o (done n s l) = (λ i. record { refusal = n i; fields = fields_said s i }) ∙ sym (says_done s l)
 
 pub read_exact : ReadExact
@@ -163,14 +163,14 @@ written_row : (f : Fields) (b : List ℕ) → Held f → WriteRow f b (written f
 written_row f b h = tested (legalb f) refl
   where
     tested : (t : Bool) → legalb f ≡ t → WriteRow f b (written f b).refusal (written f b).bytes
-    tested false e = rw (write_field f b e) (broken_field_lem refl refl (λ l. not_both (true_legal f l) e))
+    tested false e = rw (write_field f b e) (field_broken refl refl (λ l. not_both (true_legal f l) e))
     tested true e =
         split (length_of f) (length b)
         (λ m. rw (write_done f b e m) (done refl (legal_true f e) m (laid_says f b _ h refl (legal_true f e)) (laid_rest f b _ h refl)))
         (λ m. rw (write_short f b e m) (too_short refl refl (legal_true f e) m))
 
 row_written : (f : Fields) (b : List ℕ) (o : WriteOutcome) → Bytes o.bytes → WriteRow f b o.refusal o.bytes → o ≡ written f b
-row_written f b o k (broken_field_lem n e l) = (λ i. record { refusal = n i; bytes = e i }) ∙ sym (write_field f b (false_legal f l))
+row_written f b o k (field_broken n e l) = (λ i. record { refusal = n i; bytes = e i }) ∙ sym (write_field f b (false_legal f l))
 row_written f b o k (too_short n e l m) = (λ i. record { refusal = n i; bytes = e i }) ∙ sym (write_short f b (true_legal f l) m)
 row_written f b o k (done n l m s d) =
     let c : o.bytes ≡ message_of f ++ drop (length_of f) b = rw (said_message k s, ← d) (sym (take-append-drop (length_of f) o.bytes)) in

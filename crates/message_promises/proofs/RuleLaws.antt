@@ -3,7 +3,7 @@
 -- In this order: addresses that are all undefined; what the persist byte allows; the rules of the fields; the rules of a head; the addresses
 -- that are not there.
 --
--- Not here: the outcomes of the tests (message_fields/proofs/LegalLaws.antt). Assumes nothing.
+-- Not here: the outcomes of the tests (message_fields/proofs/LegalLaws.antt).
 use Prim.Native.Nat.{ℕ, zero, suc, ◌-◌, ◌≤◌}
 use mathlib.Core.Bool.{Bool, true, false}
 use mathlib.Core.List.{List, [], ◌∷◌, ◌++◌}

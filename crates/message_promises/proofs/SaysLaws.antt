@@ -4,7 +4,7 @@
 -- front of which it stands; bytes are the message of the fields that they say. Head and addresses are taken apart once, and the addresses'
 -- laws hold for any number of them, so that no law here goes by the length of a message; that `Addresses` goes by persist is met in `six_said`.
 --
--- Not here: which fields are legal (RuleLaws). Assumes nothing.
+-- Not here: which fields are legal (RuleLaws).
 use Prim.Native.Nat.{ℕ, ◌+◌, ◌-◌, ◌*◌, ◌^◌, ◌≤◌, ◌<◌}
 use mathlib.Core.List.{List, [], ◌++◌}
 use mathlib.Core.Path.{◌≡◌, refl, sym, ap, ◌∙◌}
@@ -74,23 +74,23 @@ module _ (p : ℕ) (b : List ℕ) where
   length_large : length (drop types (all_at p b)) ≡ types
   length_large = length-drop types (all_at p b) ∙ omega (arith, length_all p b)
 
-  small_at_lem : (i : ℕ) → i < types → get_or (take types (all_at p b)) i 0 ≡ get_or (all_at p b) (0 + i) 0
-  small_at_lem i h = let z : 0 + i ≡ i = omega arith in get_or-take types (all_at p b) i 0 h ∙ ap (λ (j : ℕ). get_or (all_at p b) j 0) (sym z)
+  small_from : (i : ℕ) → i < types → get_or (take types (all_at p b)) i 0 ≡ get_or (all_at p b) (0 + i) 0
+  small_from i h = let z : 0 + i ≡ i = omega arith in get_or-take types (all_at p b) i 0 h ∙ ap (λ (j : ℕ). get_or (all_at p b) j 0) (sym z)
 
-  large_at_lem : (i : ℕ) → i < types → get_or (drop types (all_at p b)) i 0 ≡ get_or (all_at p b) (types + i) 0
-  large_at_lem i h = get_or-drop types (all_at p b) i 0
+  large_from : (i : ℕ) → i < types → get_or (drop types (all_at p b)) i 0 ≡ get_or (all_at p b) (types + i) 0
+  large_from i h = get_or-drop types (all_at p b) i 0
 
   said_small : Addresses p small_at (take types (all_at p b)) b
-  said_small = said_six p 0 b (take types (all_at p b)) (omega arith) length_small small_at_lem
+  said_small = said_six p 0 b (take types (all_at p b)) (omega arith) length_small small_from
 
   said_large : Addresses p large_at (drop types (all_at p b)) b
-  said_large = said_six p types b (drop types (all_at p b)) (omega arith) length_large large_at_lem
+  said_large = said_six p types b (drop types (all_at p b)) (omega arith) length_large large_from
 
   small_said : {vs : List ℕ} → Addresses p small_at vs b → vs ≡ take types (all_at p b)
-  small_said a = six_said p 0 b (take types (all_at p b)) (omega arith) length_small small_at_lem a
+  small_said a = six_said p 0 b (take types (all_at p b)) (omega arith) length_small small_from a
 
   large_said : {vs : List ℕ} → Addresses p large_at vs b → vs ≡ drop types (all_at p b)
-  large_said a = six_said p types b (drop types (all_at p b)) (omega arith) length_large large_at_lem a
+  large_said a = six_said p types b (drop types (all_at p b)) (omega arith) length_large large_from a
 
   below_all : Bytes b → Below address_width (all_at p b)
   below_all h = below_addresses head_length (address_count p) (count_most p) b h

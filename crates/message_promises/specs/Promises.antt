@@ -20,8 +20,6 @@
 --   Message b, Acceptance  b starts with a message: it says legal fields; exactly such bytes are accepted
 --   RoundTrip             what is written reads back to equal fields, and what is read writes back to equal bytes
 --   OneMeaning            any two results that the rows allow are equal; bytes say one thing, and fields are said in one way
---
--- Assumes nothing.
 use Rattle.std.specs.Prelude.{◌≡◌, ◌↔◌, List, ◌++◌, ℕ, ◌+◌, ◌*◌, ◌≤◌, ◌<◌, length, take, drop, get_or}
 use Rattle.pages.specs.Pages.{PageSize}
 use Rattle.little.specs.Little.{value_at, Bytes}
@@ -78,8 +76,8 @@ HeadKept b = HeadLegal (value_at strategy_at persist_at b) (value_at persist_at 
 
 pub data ReadRow (b : List ℕ) (n : ℕ) (g : Fields) : Type 0 where
   too_short : n ≡ slice_too_short → g ≡ no_fields → length b < head_length → ReadRow b n g
-  other_version_lem : n ≡ other_version → g ≡ no_fields → head_length ≤ length b → (value_at version_at strategy_at b ≡ version → ⊥) → ReadRow b n g
-  broken_field_lem : n ≡ broken_field → g ≡ no_fields → head_length ≤ length b → value_at version_at strategy_at b ≡ version → (HeadKept b → ⊥) → ReadRow b n g
+  another_version : n ≡ other_version → g ≡ no_fields → head_length ≤ length b → (value_at version_at strategy_at b ≡ version → ⊥) → ReadRow b n g
+  field_broken : n ≡ broken_field → g ≡ no_fields → head_length ≤ length b → value_at version_at strategy_at b ≡ version → (HeadKept b → ⊥) → ReadRow b n g
   no_addresses : n ≡ slice_too_short → g ≡ no_fields → head_length ≤ length b → value_at version_at strategy_at b ≡ version → HeadKept b
       → 0 < value_at persist_at threshold_at b → length b < full_length → ReadRow b n g
   done : n ≡ 0 → Says g b → Legal g → ReadRow b n g
@@ -89,7 +87,7 @@ pub data RestRow (b c : List ℕ) : Type 0 where
   behind : (f : Fields) → Says f b → Legal f → c ≡ drop (length_of f) b → RestRow b c
 
 pub data WriteRow (f : Fields) (b : List ℕ) (n : ℕ) (c : List ℕ) : Type 0 where
-  broken_field_lem : n ≡ broken_field → c ≡ b → (Legal f → ⊥) → WriteRow f b n c
+  field_broken : n ≡ broken_field → c ≡ b → (Legal f → ⊥) → WriteRow f b n c
   too_short : n ≡ slice_too_short → c ≡ b → Legal f → length b < length_of f → WriteRow f b n c
   done : n ≡ 0 → Legal f → length_of f ≤ length b → Says f c → drop (length_of f) c ≡ drop (length_of f) b → WriteRow f b n c
 

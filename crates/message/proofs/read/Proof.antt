@@ -1,5 +1,4 @@
 -- `message::read` meets its contract: each return is the answer after the tests that led to it.
--- Assumes nothing.
 use Prim.Native.Nat.{◌≤◌, ◌<◌}
 use mathlib.Core.Bool.{Bool}
 use mathlib.Core.Path.{◌≡◌, sym, ap, ◌∙◌}

@@ -1,5 +1,4 @@
 -- `message::rest` meets its contract: the part starts where the definition says, which lies within the slice.
--- Assumes nothing.
 use Prim.Native.Nat.{◌≤◌, ◌-◌}
 use mathlib.Core.Path.{◌≡◌, ap, ◌∙◌}
 use native.Mathlib.Omega.{arith}

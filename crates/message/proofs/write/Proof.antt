@@ -1,5 +1,4 @@
 -- `message::write` meets its contract: each return is the answer after the tests that led to it, and only the last step writes.
--- Assumes nothing.
 use mathlib.Core.Bool.{true}
 use mathlib.Core.Path.{◌≡◌, sym, ◌∙◌}
 use native.Mathlib.Omega.{arith}
