@@ -1,6 +1,5 @@
 -- Laws of the value of digits, in the order of specs/Decimal.antt, the round trip, and how many digits a number has.
 -- Not here: laws of `every` (LineLaws).
--- Assumes nothing.
 use Prim.Native.Nat.{ℕ, zero, suc, ◌+◌, ◌-◌, ◌*◌, ◌/◌, ◌%◌, ◌^◌, ◌<◌, ◌≤◌}
 use mathlib.Core.Bool.{Bool, true, false, cond}
 use mathlib.Core.List.{List, [], ◌∷◌, ◌++◌}

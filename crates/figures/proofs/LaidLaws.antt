@@ -1,5 +1,5 @@
 -- One byte more of what is laid into a buffer; a number is laid in one way alone.
--- Not here: laws of `paste` (lib.Seq). Assumes nothing.
+-- Not here: laws of `paste` (lib.Seq).
 use Prim.Native.Nat.{ℕ, ◌+◌, ◌<◌}
 use mathlib.Core.List.{List}
 use mathlib.Core.Path.{◌≡◌, sym, ap, ◌∙◌}

@@ -5,7 +5,6 @@
 --   Steps z            each step fits, and they end one short of the distance
 --
 -- Not here: laws of the digits (DecimalLaws).
--- Assumes nothing.
 use Prim.Native.Nat.{ℕ, zero, suc, ◌+◌, ◌-◌, ◌≤◌, ◌<◌}
 use mathlib.Core.Bool.{true, false, true≢false}
 use mathlib.Core.List.{List, [], ◌∷◌}

@@ -9,7 +9,7 @@
 --
 --   RoundTrip          what `io::decimal` prints of a number says that number
 --
--- Assumes nothing. Laws, and the proof of RoundTrip, are in proofs/DecimalLaws.antt.
+-- Laws, and the proof of RoundTrip, are in proofs/DecimalLaws.antt.
 use Rattle.std.specs.Prelude.{◌≡◌, Bool, cond, ◌&&◌, List, [], ◌∷◌, ℕ, ◌+◌, ◌-◌, ◌*◌, ◌<◌, leb, ltb, eqb, length}
 use Rattle.io.specs.Digits.{last_digits, IsDigitCount}
 use Rattle.figures.specs.declared.numbers.Number.{Number}

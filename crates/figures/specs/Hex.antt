@@ -7,7 +7,7 @@
 --   bytes_said xs      the bytes, the higher digit of each first
 --   glyph_of v         the digit of a value below 16, in small letters: as `io::hex` prints it
 --
--- Assumes nothing. Laws are in proofs/HexLaws.antt.
+-- Laws are in proofs/HexLaws.antt.
 use Rattle.std.specs.Prelude.{Bool, false, cond, not, List, [], ◌∷◌, ℕ, ◌+◌, ◌-◌, ◌*◌, ◌%◌, leb, ltb, eqb, length}
 use Rattle.script.specs.Line.{every}
 

@@ -6,7 +6,7 @@
 --
 --   OneLaid                 a number is laid in one way alone: any two results of NumberLaid are one place and one buffer
 --
--- Assumes nothing. OneLaid is proved in proofs/LaidLaws.antt.
+-- OneLaid is proved in proofs/LaidLaws.antt.
 use Rattle.std.specs.Prelude.{◌≡◌, List, ℕ, ◌+◌, ◌≤◌, length}
 use Rattle.std.proofs.Math.Seq.{paste}
 use Rattle.io.specs.Digits.{last_digits, IsDigitCount}

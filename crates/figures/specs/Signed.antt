@@ -9,7 +9,7 @@
 --
 --   SignedRoundTrip    a number's sign, and what `io::decimal` prints of its distance from 0, say that number
 --
--- Assumes nothing. Laws, and the proof of SignedRoundTrip, are in proofs/SignedLaws.antt.
+-- Laws, and the proof of SignedRoundTrip, are in proofs/SignedLaws.antt.
 use Rattle.std.specs.Prelude.{◌≡◌, cond, List, [], ◌∷◌, ◌++◌, ℕ, leb, ltb, eqb, ℤ, pos, negsuc, neg_ℤ, nat_abs}
 use Rattle.std.specs.Int.{w64}
 use Rattle.std.proofs.Common.{SFits}

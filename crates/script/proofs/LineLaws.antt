@@ -3,7 +3,7 @@
 --   Runs p xs from i   a walk over the run of such bytes that starts at `from` has come to i
 --
 -- Then what `every` says of one element.
--- Not here: laws of `drop` and `get_or` (lib.Seq), of `&&` (pages/proofs/Numbers.antt). Assumes nothing.
+-- Not here: laws of `drop` and `get_or` (lib.Seq), of `&&` (pages/proofs/Numbers.antt).
 use Prim.Native.Nat.{ℕ, zero, suc, ◌+◌, ◌<◌, ◌≤◌}
 use mathlib.Core.Bool.{Bool, true, false}
 use mathlib.Core.List.{List, [], ◌∷◌}

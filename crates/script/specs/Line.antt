@@ -12,7 +12,7 @@
 --   starts was is      1 where a word starts: at a letter behind a blank (was: a blank came before, is: this is one)
 --   words_in was xs     how many words start in xs
 --
--- Assumes nothing. Laws are in proofs/LineLaws.antt; two texts are compared by `sameb` of pages/specs/Same.antt.
+-- Laws are in proofs/LineLaws.antt; two texts are compared by `sameb` of pages/specs/Same.antt.
 use Rattle.std.specs.Prelude.{◌≡◌, Bool, true, cond, not, ◌&&◌, ◌||◌, List, [], ◌∷◌, ℕ, suc, ◌+◌, ◌≤◌, eqb, length, drop}
 use Rattle.script.specs.declared.words.Word.{Word}
 
