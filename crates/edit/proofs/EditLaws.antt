@@ -3,7 +3,7 @@
 -- In this order: the entries behind the place kept, moved up, moved down; the new ones laid over that; both together; `spliced_table`, the
 -- statement SplicedTable of specs/Edit.antt.
 --
--- Not here: laws of the moves' loops (MoveLaws of `moves`), of laid pieces (WordLaws of `pieces`). Assumes nothing.
+-- Not here: laws of the moves' loops (MoveLaws of `moves`), of laid pieces (WordLaws of `pieces`).
 use mathlib.Core.Path.{◌≡◌, sym, ◌∙◌}
 use mathlib.Core.List.{List, ◌++◌, append_assoc}
 use Prim.Native.Nat.{ℕ, ◌+◌, ◌-◌, ◌*◌, ◌≤◌, ◌<◌}

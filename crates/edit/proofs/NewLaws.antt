@@ -2,8 +2,6 @@
 --
 -- In this order: the entries of a gap and of a tail are those that two live pieces determine; how many entries are free, a gap's (gap_most at
 -- most), new; pieces put one after the other.
---
--- Assumes nothing.
 use mathlib.Core.Path.{◌≡◌, refl, sym, ◌∙◌}
 use mathlib.Core.List.{List, [], ◌∷◌, ◌++◌, append-nil}
 use Prim.Native.Nat.{ℕ, ◌+◌, ◌-◌, ◌*◌, ◌≤◌, ◌<◌}

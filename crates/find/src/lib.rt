@@ -37,6 +37,7 @@ fn started(address: u64, n: usize, table: &[u64]) -> usize
 }
 
 // What is told of an address and a size, where the address lies in this piece, entry i.
+#[tactic(auto, unfolding(crate::specs::Find::told_of))]
 fn told(address: u64, size: u64, i: usize, piece: Piece) -> Found
     ensures { result ≡ told_of address size i piece }
 {
