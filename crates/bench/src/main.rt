@@ -21,6 +21,7 @@ ghost use Rattle.pieces.specs.Words.{entry_words};
 use pieces::ENTRY_WORDS;
 use space::Space;
 use space::answers::{DONE, address_of, allocate_number, release_number, resize_number};
+use std::io::{Read, Stdin, Stdout};
 use std::num::{wrapping_add_u64, wrapping_sub_u64};
 
 const PAGE: u64 = 4096;
@@ -366,22 +367,39 @@ fn zero_words() -> [u64; MOST_WORDS]
     [0; MOST_WORDS]
 }
 
-fn say(name: &[u8], n: u64) {
-    io::write_all(libc::STDOUT_FILENO, name);
-    io::print_decimal(libc::STDOUT_FILENO, n);
-    io::write_all(libc::STDOUT_FILENO, b"\n");
+fn say(stdout: Stdout, name: &[u8], n: u64) {
+    let _ = stdout.write_all(name);
+    let _ = stdout.print(n);
+    let _ = stdout.write_all(b"\n");
 }
 
-fn main() {
+// Reads until the text is full, the input is over or a read fails, and answers how many bytes were read.
+fn read_full(mut stdin: Stdin, text: &mut [u8]) -> usize
+    ensures { result ≤ length text.new }
+{
+    let mut done = 0;
+    while done < text.len() {
+        match stdin.read(&mut text[done..]) {
+            Ok(0) | Err(_) => {
+                return done;
+            }
+            Ok(n) => done += n,
+        }
+    }
+    done
+}
+
+fn main(rt: HostRuntime) {
+    let stdout = rt.stdout();
     let mut text = [0u8; 64];
-    let got = io::read_full(libc::STDIN_FILENO, &mut text);
+    let got = read_full(rt.stdin(), &mut text);
     let wish = asked(&text[..got]);
     let mut table = zero_words();
     let words = words_for(wish.capacity);
     let run = worked(&mut table[..words], wish);
     let space = run.space;
-    say(b"checksum ", run.sum);
-    say(b"accepted ", run.accepted);
-    say(b"entries in all ", run.entries);
-    say(b"end ", space.end);
+    say(stdout, b"checksum ", run.sum);
+    say(stdout, b"accepted ", run.accepted);
+    say(stdout, b"entries in all ", run.entries);
+    say(stdout, b"end ", space.end);
 }

@@ -5,20 +5,39 @@ use show::claim::Tally;
 use show::scene::Scene;
 use show::{answer, case, scene};
 use space::Space;
+use std::io::Stdout;
 use std::num::wrapping_add_u64;
 
 // That a release, an extend or a shorten is done, and leaves this end.
-pub fn done(t: Tally, text: &[u8], k: u64, s: Scene, call: Call, end: u64) -> Tally {
-    case::answers(t, text, k, s, call, Answer::Done, end)
+pub fn done(
+    stdout: Stdout,
+    t: Tally,
+    text: &[u8],
+    k: u64,
+    s: Scene,
+    call: Call,
+    end: u64,
+) -> Tally {
+    case::answers(stdout, t, text, k, s, call, Answer::Done, end)
 }
 
 // That an allocation goes to this address, and leaves this end.
-pub fn placed(t: Tally, text: &[u8], k: u64, s: Scene, call: Call, at: u64, end: u64) -> Tally {
-    case::answers(t, text, k, s, call, Answer::At(at), end)
+pub fn placed(
+    stdout: Stdout,
+    t: Tally,
+    text: &[u8],
+    k: u64,
+    s: Scene,
+    call: Call,
+    at: u64,
+    end: u64,
+) -> Tally {
+    case::answers(stdout, t, text, k, s, call, Answer::At(at), end)
 }
 
 // That the call has this answer, and leaves exactly this state and these words.
 pub fn answers_and_leaves(
+    stdout: Stdout,
     t: Tally,
     text: &[u8],
     k: u64,
@@ -30,15 +49,23 @@ pub fn answers_and_leaves(
     let asked = scene::ask(s, call);
     let found = asked.answer;
     if !answer::same_answer(expected, found) {
-        return t.answer(text, k, expected, found);
+        return t.answer(stdout, text, k, expected, found);
     }
     let left = asked.scene;
-    case::same(t, text, k, after, left)
+    case::same(stdout, t, text, k, after, left)
 }
 
 // That a release, an extend or a shorten is done, and leaves this.
-pub fn leaves(t: Tally, text: &[u8], k: u64, s: Scene, call: Call, after: Scene) -> Tally {
-    answers_and_leaves(t, text, k, s, call, Answer::Done, after)
+pub fn leaves(
+    stdout: Stdout,
+    t: Tally,
+    text: &[u8],
+    k: u64,
+    s: Scene,
+    call: Call,
+    after: Scene,
+) -> Tally {
+    answers_and_leaves(stdout, t, text, k, s, call, Answer::Done, after)
 }
 
 // The scene with no entry.

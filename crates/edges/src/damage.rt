@@ -10,6 +10,7 @@ use show::scene::Scene;
 use show::text::{say, say_line, say_nth, say_number};
 use show::{answer, claim, scene};
 use space::answers::{BEYOND_END, NOT_SOUND, UNKNOWN_CODE, ZERO_ASKED};
+use std::io::Stdout;
 
 // The words of the eight entries after step 5.
 const ENTRIES_WORDS: usize = 8 * ENTRY_WORDS;
@@ -174,69 +175,70 @@ fn try_values(s: Scene, i: usize) -> Counts {
     n
 }
 
-fn say_place(i: usize) {
-    say(b"word ");
-    say_number(i as u64);
+fn say_place(stdout: Stdout, i: usize) {
+    say(stdout, b"word ");
+    say_number(stdout, i as u64);
     if ENTRIES_WORDS <= i {
-        say(b", behind the entries: ");
+        say(stdout, b", behind the entries: ");
         return;
     }
     say_nth(
+        stdout,
         b", the address of entry \n, the size of entry \n, the kind of entry ",
         (i % ENTRY_WORDS) as u64,
     );
-    say_number((i / ENTRY_WORDS) as u64);
-    say(b": ");
+    say_number(stdout, (i / ENTRY_WORDS) as u64);
+    say(stdout, b": ");
 }
 
 // The line of a damaged word.
-fn damage_word(t: Tally, s: Scene, i: usize) -> Tally {
+fn damage_word(stdout: Stdout, t: Tally, s: Scene, i: usize) -> Tally {
     let n = try_values(s, i);
-    say_verdict(n.wrong == 0);
-    say_place(i);
-    say_number(n.refused);
-    say(b" other values refused 2, ");
-    say_number(n.sound);
-    say(b" sound by document 01, ");
-    say_number(n.wrong);
-    say_line(b" answered otherwise");
+    say_verdict(stdout, n.wrong == 0);
+    say_place(stdout, i);
+    say_number(stdout, n.refused);
+    say(stdout, b" other values refused 2, ");
+    say_number(stdout, n.sound);
+    say(stdout, b" sound by document 01, ");
+    say_number(stdout, n.wrong);
+    say_line(stdout, b" answered otherwise");
     t.count(n.wrong == 0)
 }
 
-fn words_in_turn(t: Tally, s: Scene) -> Tally {
+fn words_in_turn(stdout: Stdout, t: Tally, s: Scene) -> Tally {
     let mut tally = t;
     let mut i: usize = 0;
     while i < TABLE_WORDS {
-        tally = damage_word(tally, s, i);
+        tally = damage_word(stdout, tally, s, i);
         i = i + 1;
     }
     tally
 }
 
-fn judge(t: Tally, text: &[u8], k: u64, held: bool) -> Tally {
-    claim::say_claim(held, text, k);
+fn judge(stdout: Stdout, t: Tally, text: &[u8], k: u64, held: bool) -> Tally {
+    claim::say_claim(stdout, held, text, k);
     if !held {
-        say_line(b"each call to refuse what the claim says, found one that does not");
+        say_line(
+            stdout,
+            b"each call to refuse what the claim says, found one that does not",
+        );
     }
     t.count(held)
 }
 
 // That every call refuses 2.
-pub fn broken(t: Tally, text: &[u8], k: u64, s: Scene) -> Tally {
-    judge(t, text, k, is_broken(s))
+pub fn broken(stdout: Stdout, t: Tally, text: &[u8], k: u64, s: Scene) -> Tally {
+    judge(stdout, t, text, k, is_broken(s))
 }
 
 // That no call refuses 2, but what comes after it.
-pub fn sound(t: Tally, text: &[u8], k: u64, s: Scene) -> Tally {
-    judge(t, text, k, is_sound(s))
+pub fn sound(stdout: Stdout, t: Tally, text: &[u8], k: u64, s: Scene) -> Tally {
+    judge(stdout, t, text, k, is_sound(s))
 }
 
 // The same of the words after step 5, with this state.
-fn breaks(t: Tally, text: &[u8], k: u64, page: u64, limit: u64, end: u64, count: u64) -> Tally {
-    broken(t, text, k, scenes::with_state(page, limit, end, count))
-}
-
-fn stays_sound(
+fn breaks(
+    stdout: Stdout,
     t: Tally,
     text: &[u8],
     k: u64,
@@ -245,10 +247,35 @@ fn stays_sound(
     end: u64,
     count: u64,
 ) -> Tally {
-    sound(t, text, k, scenes::with_state(page, limit, end, count))
+    broken(
+        stdout,
+        t,
+        text,
+        k,
+        scenes::with_state(page, limit, end, count),
+    )
 }
 
-fn pages_and_limits(t: Tally) -> Tally {
+fn stays_sound(
+    stdout: Stdout,
+    t: Tally,
+    text: &[u8],
+    k: u64,
+    page: u64,
+    limit: u64,
+    end: u64,
+    count: u64,
+) -> Tally {
+    sound(
+        stdout,
+        t,
+        text,
+        k,
+        scenes::with_state(page, limit, end, count),
+    )
+}
+
+fn pages_and_limits(stdout: Stdout, t: Tally) -> Tally {
     let c: &[u8] = b"the state after step 5 is sound\n\
                      P = 511 is refused 2 by every call\n\
                      P = 513 is refused 2 by every call\n\
@@ -259,19 +286,19 @@ fn pages_and_limits(t: Tally) -> Tally {
                      M = 5121 is sound\n\
                      M = 2^62 is sound\n\
                      M = 2^62 + 1 is refused 2 by every call";
-    let t = stays_sound(t, c, 0, 512, 5120, 2560, 8);
-    let t = breaks(t, c, 1, 511, 5120, 2560, 8);
-    let t = breaks(t, c, 2, 513, 5120, 2560, 8);
-    let t = breaks(t, c, 3, 640, 5120, 2560, 8);
-    let t = breaks(t, c, 4, 0, 5120, 2560, 8);
-    let t = breaks(t, c, 5, 512, 2559, 2560, 8);
-    let t = stays_sound(t, c, 6, 512, 2560, 2560, 8);
-    let t = stays_sound(t, c, 7, 512, 5121, 2560, 8);
-    let t = stays_sound(t, c, 8, 512, 4611686018427387904, 2560, 8);
-    breaks(t, c, 9, 512, 4611686018427387905, 2560, 8)
+    let t = stays_sound(stdout, t, c, 0, 512, 5120, 2560, 8);
+    let t = breaks(stdout, t, c, 1, 511, 5120, 2560, 8);
+    let t = breaks(stdout, t, c, 2, 513, 5120, 2560, 8);
+    let t = breaks(stdout, t, c, 3, 640, 5120, 2560, 8);
+    let t = breaks(stdout, t, c, 4, 0, 5120, 2560, 8);
+    let t = breaks(stdout, t, c, 5, 512, 2559, 2560, 8);
+    let t = stays_sound(stdout, t, c, 6, 512, 2560, 2560, 8);
+    let t = stays_sound(stdout, t, c, 7, 512, 5121, 2560, 8);
+    let t = stays_sound(stdout, t, c, 8, 512, 4611686018427387904, 2560, 8);
+    breaks(stdout, t, c, 9, 512, 4611686018427387905, 2560, 8)
 }
 
-fn ends_and_counts(t: Tally) -> Tally {
+fn ends_and_counts(stdout: Stdout, t: Tally) -> Tally {
     let c: &[u8] = b"E = 2559 is refused 2 by every call\n\
                      E a page less is refused 2 by every call\n\
                      E a page more is refused 2 by every call\n\
@@ -282,19 +309,19 @@ fn ends_and_counts(t: Tally) -> Tally {
                      n = 2^64 - 1 is refused 2 by every call\n\
                      E = 0 and n = 0 over these words is refused 2 by every call\n\
                      the state of a refused opening is refused 2 by every call";
-    let t = breaks(t, c, 0, 512, 5120, 2559, 8);
-    let t = breaks(t, c, 1, 512, 5120, 2048, 8);
-    let t = breaks(t, c, 2, 512, 5120, 3072, 8);
-    let t = breaks(t, c, 3, 512, 5120, 0, 8);
-    let t = breaks(t, c, 4, 512, 5120, 2560, 7);
-    let t = breaks(t, c, 5, 512, 5120, 2560, 9);
-    let t = breaks(t, c, 6, 512, 5120, 2560, 13);
-    let t = breaks(t, c, 7, 512, 5120, 2560, LARGEST);
-    let t = breaks(t, c, 8, 512, 5120, 0, 0);
-    broken(t, c, 9, scenes::opened(511, 5120, TABLE_WORDS))
+    let t = breaks(stdout, t, c, 0, 512, 5120, 2559, 8);
+    let t = breaks(stdout, t, c, 1, 512, 5120, 2048, 8);
+    let t = breaks(stdout, t, c, 2, 512, 5120, 3072, 8);
+    let t = breaks(stdout, t, c, 3, 512, 5120, 0, 8);
+    let t = breaks(stdout, t, c, 4, 512, 5120, 2560, 7);
+    let t = breaks(stdout, t, c, 5, 512, 5120, 2560, 9);
+    let t = breaks(stdout, t, c, 6, 512, 5120, 2560, 13);
+    let t = breaks(stdout, t, c, 7, 512, 5120, 2560, LARGEST);
+    let t = breaks(stdout, t, c, 8, 512, 5120, 0, 0);
+    broken(stdout, t, c, 9, scenes::opened(511, 5120, TABLE_WORDS))
 }
 
-pub fn all(t: Tally) -> Tally {
-    let t = ends_and_counts(pages_and_limits(t));
-    words_in_turn(t, scenes::five())
+pub fn all(stdout: Stdout, t: Tally) -> Tally {
+    let t = ends_and_counts(stdout, pages_and_limits(stdout, t));
+    words_in_turn(stdout, t, scenes::five())
 }

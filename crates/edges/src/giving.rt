@@ -7,6 +7,7 @@ use show::claim::Tally;
 use show::scene;
 use show::scene::Scene;
 use space::place::{METADATA, RAW};
+use std::io::Stdout;
 
 const LARGEST: u64 = 18446744073709551615;
 
@@ -17,7 +18,7 @@ fn after_step_six() -> Scene {
     added(s, 502, 4)
 }
 
-fn releases(t: Tally) -> Tally {
+fn releases(stdout: Stdout, t: Tally) -> Tally {
     let c: &[u8] = b"release (1024, 700), a live piece, is done\n\
                      release of a byte less is refused 16\n\
                      release of a byte more is refused 16\n\
@@ -30,22 +31,30 @@ fn releases(t: Tally) -> Tally {
                      release of a zero entry behind the table is refused 16, as (0, 0)\n\
                      a second release of the same piece is refused 14, where E stays";
     let s = scenes::five();
-    let t = leaves(t, c, 0, s, Call::Release(1024, 700), after_step_six());
-    let t = refuses(t, c, 1, s, Call::Release(1024, 699), 16);
-    let t = refuses(t, c, 2, s, Call::Release(1024, 701), 16);
-    let t = refuses(t, c, 3, s, Call::Release(1023, 700), 14);
-    let t = refuses(t, c, 4, s, Call::Release(1025, 700), 15);
-    let t = refuses(t, c, 5, s, Call::Release(612, 412), 14);
-    let t = refuses(t, c, 6, s, Call::Release(1024, 0), 16);
-    let t = refuses(t, c, 7, s, Call::Release(0, LARGEST), 16);
-    let t = refuses(t, c, 8, s, Call::Release(LARGEST, LARGEST), 13);
-    let t = refuses(t, c, 9, s, Call::Release(0, 0), 16);
+    let t = leaves(
+        stdout,
+        t,
+        c,
+        0,
+        s,
+        Call::Release(1024, 700),
+        after_step_six(),
+    );
+    let t = refuses(stdout, t, c, 1, s, Call::Release(1024, 699), 16);
+    let t = refuses(stdout, t, c, 2, s, Call::Release(1024, 701), 16);
+    let t = refuses(stdout, t, c, 3, s, Call::Release(1023, 700), 14);
+    let t = refuses(stdout, t, c, 4, s, Call::Release(1025, 700), 15);
+    let t = refuses(stdout, t, c, 5, s, Call::Release(612, 412), 14);
+    let t = refuses(stdout, t, c, 6, s, Call::Release(1024, 0), 16);
+    let t = refuses(stdout, t, c, 7, s, Call::Release(0, LARGEST), 16);
+    let t = refuses(stdout, t, c, 8, s, Call::Release(LARGEST, LARGEST), 13);
+    let t = refuses(stdout, t, c, 9, s, Call::Release(0, 0), 16);
     let s = scene::after(s, Call::Release(1024, 700));
-    refuses(t, c, 10, s, Call::Release(1024, 700), 14)
+    refuses(stdout, t, c, 10, s, Call::Release(1024, 700), 14)
 }
 
 // Where an address lies, at the edges of entries: a file that ends in a free entry, one that ends in a live one, and one of no bytes.
-fn wrong_names(t: Tally) -> Tally {
+fn wrong_names(stdout: Stdout, t: Tally) -> Tally {
     let c: &[u8] = b"the last byte of a free entry, at E - 1, is refused 14\n\
                      its first byte is refused 14\n\
                      the byte at E is refused 13\n\
@@ -56,30 +65,38 @@ fn wrong_names(t: Tally) -> Tally {
                      a second release of the last piece is refused 13, where E was cut\n\
                      with E = 0 every name is refused 13";
     let s = scenes::five();
-    let t = refuses(t, c, 0, s, Call::Release(2559, 1), 14);
-    let t = refuses(t, c, 1, s, Call::Release(2058, 502), 14);
-    let t = refuses(t, c, 2, s, Call::Release(2560, 502), 13);
-    let t = refuses(t, c, 3, s, Call::Release(2049, 9), 15);
-    let t = refuses(t, c, 4, s, Call::Release(2057, 1), 15);
+    let t = refuses(stdout, t, c, 0, s, Call::Release(2559, 1), 14);
+    let t = refuses(stdout, t, c, 1, s, Call::Release(2058, 502), 14);
+    let t = refuses(stdout, t, c, 2, s, Call::Release(2560, 502), 13);
+    let t = refuses(stdout, t, c, 3, s, Call::Release(2049, 9), 15);
+    let t = refuses(stdout, t, c, 4, s, Call::Release(2057, 1), 15);
     let last = one(s, 512, 3);
-    let t = refuses(t, c, 5, last, Call::Release(511, 1), 15);
-    let t = refuses(t, c, 6, last, Call::Release(512, 512), 13);
+    let t = refuses(stdout, t, c, 5, last, Call::Release(511, 1), 15);
+    let t = refuses(stdout, t, c, 6, last, Call::Release(512, 512), 13);
     let s = scene::after(s, Call::Release(2048, 10));
-    let t = refuses(t, c, 7, s, Call::Release(2048, 10), 13);
-    refuses(t, c, 8, scenes::empty(), Call::Release(0, 0), 13)
+    let t = refuses(stdout, t, c, 7, s, Call::Release(2048, 10), 13);
+    refuses(stdout, t, c, 8, scenes::empty(), Call::Release(0, 0), 13)
 }
 
-fn part_pages(t: Tally) -> Tally {
+fn part_pages(stdout: Stdout, t: Tally) -> Tally {
     let c: &[u8] = b"whole pages are cut from the end, and a part page stays\n\
                      the last piece's release empties the file";
     let s = scene::after(scenes::empty(), Call::Allocate(RAW, 700));
     let s = scene::after(s, Call::Allocate(RAW, 512));
-    let t = leaves(t, c, 0, s, Call::Release(1024, 512), two(s, 700, 3, 324, 6));
+    let t = leaves(
+        stdout,
+        t,
+        c,
+        0,
+        s,
+        Call::Release(1024, 512),
+        two(s, 700, 3, 324, 6),
+    );
     let s = scenes::one();
-    leaves(t, c, 1, s, Call::Release(0, 96), none(s))
+    leaves(stdout, t, c, 1, s, Call::Release(0, 96), none(s))
 }
 
-fn extends_small(t: Tally) -> Tally {
+fn extends_small(stdout: Stdout, t: Tally) -> Tally {
     let c: &[u8] = b"after step 1 extending (0, 96) by 415 is done\n\
                      after step 1 extending (0, 96) by 416 is refused 8\n\
                      extending a small piece by 2^64 - 1 is refused 8\n\
@@ -91,11 +108,20 @@ fn extends_small(t: Tally) -> Tally {
                      a raw piece may reach P - 1\n\
                      a raw piece may not reach P";
     let s = scenes::one();
-    let t = leaves(t, c, 0, s, Call::Extend(0, 96, 415), two(s, 511, 1, 1, 4));
-    let t = refuses(t, c, 1, s, Call::Extend(0, 96, 416), 8);
-    let t = refuses(t, c, 2, s, Call::Extend(0, 96, LARGEST), 8);
+    let t = leaves(
+        stdout,
+        t,
+        c,
+        0,
+        s,
+        Call::Extend(0, 96, 415),
+        two(s, 511, 1, 1, 4),
+    );
+    let t = refuses(stdout, t, c, 1, s, Call::Extend(0, 96, 416), 8);
+    let t = refuses(stdout, t, c, 2, s, Call::Extend(0, 96, LARGEST), 8);
     let next = scene::after(s, Call::Allocate(METADATA, 100));
     let t = leaves(
+        stdout,
         t,
         c,
         3,
@@ -103,13 +129,13 @@ fn extends_small(t: Tally) -> Tally {
         Call::Extend(96, 100, 316),
         two(next, 96, 1, 416, 1),
     );
-    let t = refuses(t, c, 4, next, Call::Extend(96, 100, 317), 8);
-    let t = refuses(t, c, 5, next, Call::Extend(0, 96, 1), 8);
+    let t = refuses(stdout, t, c, 4, next, Call::Extend(96, 100, 317), 8);
+    let t = refuses(stdout, t, c, 5, next, Call::Extend(0, 96, 1), 8);
     let s = scenes::five();
-    let t = done(t, c, 6, s, Call::Extend(2048, 10, 501), 2560);
-    let t = refuses(t, c, 7, s, Call::Extend(2048, 10, 502), 8);
-    let t = done(t, c, 8, s, Call::Extend(512, 100, 411), 2560);
-    refuses(t, c, 9, s, Call::Extend(512, 100, 412), 8)
+    let t = done(stdout, t, c, 6, s, Call::Extend(2048, 10, 501), 2560);
+    let t = refuses(stdout, t, c, 7, s, Call::Extend(2048, 10, 502), 8);
+    let t = done(stdout, t, c, 8, s, Call::Extend(512, 100, 411), 2560);
+    refuses(stdout, t, c, 9, s, Call::Extend(512, 100, 412), 8)
 }
 
 // Two pieces fill a page of this type. The next page begins with a piece of 10 bytes and one of 20.
@@ -126,7 +152,7 @@ fn free_behind_border(s: Scene, live: u64, free: u64) -> Scene {
     added(added(s, 20, live), 482, free)
 }
 
-fn extends_at_border(t: Tally) -> Tally {
+fn extends_at_border(stdout: Stdout, t: Tally) -> Tally {
     let c: &[u8] = b"a released piece at a page's start stays metadata\n\
                      a released piece at a page's start stays raw\n\
                      at a page's border one byte is refused 8, with a free entry of its type behind the border\n\
@@ -136,20 +162,20 @@ fn extends_at_border(t: Tally) -> Tally {
                      a raw piece that ends at E has no room: one byte is refused 8";
     let s = two_pages(METADATA);
     let free = free_behind_border(s, 1, 4);
-    let t = leaves(t, c, 0, s, Call::Release(512, 10), free);
+    let t = leaves(stdout, t, c, 0, s, Call::Release(512, 10), free);
     let raw = two_pages(RAW);
     let raw_free = free_behind_border(raw, 2, 5);
-    let t = leaves(t, c, 1, raw, Call::Release(512, 10), raw_free);
-    let t = refuses(t, c, 2, free, Call::Extend(96, 416, 1), 8);
-    let t = refuses(t, c, 3, raw_free, Call::Extend(96, 416, 1), 8);
-    let t = refuses(t, c, 4, s, Call::Extend(96, 416, 1), 8);
+    let t = leaves(stdout, t, c, 1, raw, Call::Release(512, 10), raw_free);
+    let t = refuses(stdout, t, c, 2, free, Call::Extend(96, 416, 1), 8);
+    let t = refuses(stdout, t, c, 3, raw_free, Call::Extend(96, 416, 1), 8);
+    let t = refuses(stdout, t, c, 4, s, Call::Extend(96, 416, 1), 8);
     let last = two(s, 96, 1, 416, 1);
-    let t = refuses(t, c, 5, last, Call::Extend(96, 416, 1), 8);
+    let t = refuses(stdout, t, c, 5, last, Call::Extend(96, 416, 1), 8);
     let last = two(s, 96, 2, 416, 2);
-    refuses(t, c, 6, last, Call::Extend(96, 416, 1), 8)
+    refuses(stdout, t, c, 6, last, Call::Extend(96, 416, 1), 8)
 }
 
-fn extends_named(t: Tally) -> Tally {
+fn extends_named(stdout: Stdout, t: Tally) -> Tally {
     let c: &[u8] = b"extending by 0 is refused 4\n\
                      extending by 1 is done\n\
                      extending a piece of size 0 is refused 4\n\
@@ -160,18 +186,18 @@ fn extends_named(t: Tally) -> Tally {
                      extending a piece of 2^64 - 1 bytes is refused 16\n\
                      extending a piece at 2^64 - 1 is refused 13";
     let s = scenes::five();
-    let t = refuses(t, c, 0, s, Call::Extend(1024, 700, 0), 4);
-    let t = done(t, c, 1, s, Call::Extend(1024, 700, 1), 2560);
-    let t = refuses(t, c, 2, s, Call::Extend(1024, 0, 1), 4);
-    let t = refuses(t, c, 3, s, Call::Extend(1, 1, 0), 4);
-    let t = refuses(t, c, 4, s, Call::Extend(1024, 699, 1), 16);
-    let t = refuses(t, c, 5, s, Call::Extend(1724, 324, 1), 14);
-    let t = refuses(t, c, 6, s, Call::Extend(1025, 699, 1), 15);
-    let t = refuses(t, c, 7, s, Call::Extend(0, LARGEST, LARGEST), 16);
-    refuses(t, c, 8, s, Call::Extend(LARGEST, 1, 1), 13)
+    let t = refuses(stdout, t, c, 0, s, Call::Extend(1024, 700, 0), 4);
+    let t = done(stdout, t, c, 1, s, Call::Extend(1024, 700, 1), 2560);
+    let t = refuses(stdout, t, c, 2, s, Call::Extend(1024, 0, 1), 4);
+    let t = refuses(stdout, t, c, 3, s, Call::Extend(1, 1, 0), 4);
+    let t = refuses(stdout, t, c, 4, s, Call::Extend(1024, 699, 1), 16);
+    let t = refuses(stdout, t, c, 5, s, Call::Extend(1724, 324, 1), 14);
+    let t = refuses(stdout, t, c, 6, s, Call::Extend(1025, 699, 1), 15);
+    let t = refuses(stdout, t, c, 7, s, Call::Extend(0, LARGEST, LARGEST), 16);
+    refuses(stdout, t, c, 8, s, Call::Extend(LARGEST, 1, 1), 13)
 }
 
-fn extends_large(t: Tally) -> Tally {
+fn extends_large(stdout: Stdout, t: Tally) -> Tally {
     let c: &[u8] = b"a large piece takes all of the free large entry behind it, 324 bytes\n\
                      a byte more than that entry is refused 8\n\
                      a large piece at E grows the file up to M\n\
@@ -184,11 +210,20 @@ fn extends_large(t: Tally) -> Tally {
                      with a live small piece behind it a large piece has no room: refused 8\n\
                      with a free small entry behind it a large piece has no room: refused 8";
     let s = scenes::five();
-    let t = done(t, c, 0, s, Call::Extend(1024, 700, 324), 2560);
-    let t = refuses(t, c, 1, s, Call::Extend(1024, 700, 325), 8);
+    let t = done(stdout, t, c, 0, s, Call::Extend(1024, 700, 324), 2560);
+    let t = refuses(stdout, t, c, 1, s, Call::Extend(1024, 700, 325), 8);
     let s = scene::after(scenes::empty(), Call::Allocate(RAW, 512));
-    let t = leaves(t, c, 2, s, Call::Extend(0, 512, 4608), one(s, 5120, 3));
     let t = leaves(
+        stdout,
+        t,
+        c,
+        2,
+        s,
+        Call::Extend(0, 512, 4608),
+        one(s, 5120, 3),
+    );
+    let t = leaves(
+        stdout,
         t,
         c,
         3,
@@ -196,19 +231,27 @@ fn extends_large(t: Tally) -> Tally {
         Call::Extend(0, 512, 513),
         two(s, 1025, 3, 511, 6),
     );
-    let t = refuses(t, c, 4, s, Call::Extend(0, 512, 4609), 5);
-    let t = refuses(t, c, 5, s, Call::Extend(0, 512, LARGEST), 5);
+    let t = refuses(stdout, t, c, 4, s, Call::Extend(0, 512, 4609), 5);
+    let t = refuses(stdout, t, c, 5, s, Call::Extend(0, 512, LARGEST), 5);
     let s = scene::after(scenes::empty(), Call::Allocate(RAW, 700));
-    let t = leaves(t, c, 6, s, Call::Extend(0, 700, 324), one(s, 1024, 3));
-    let t = refuses(t, c, 7, s, Call::Extend(0, 700, 325), 8);
-    let t = refuses(t, c, 8, s, Call::Extend(0, 700, LARGEST), 8);
+    let t = leaves(
+        stdout,
+        t,
+        c,
+        6,
+        s,
+        Call::Extend(0, 700, 324),
+        one(s, 1024, 3),
+    );
+    let t = refuses(stdout, t, c, 7, s, Call::Extend(0, 700, 325), 8);
+    let t = refuses(stdout, t, c, 8, s, Call::Extend(0, 700, LARGEST), 8);
     let s = added(two(s, 512, 3, 10, 1), 502, 4);
-    let t = refuses(t, c, 9, s, Call::Extend(0, 512, 1), 8);
+    let t = refuses(stdout, t, c, 9, s, Call::Extend(0, 512, 1), 8);
     let s = added(two(s, 512, 3, 10, 4), 502, 1);
-    refuses(t, c, 10, s, Call::Extend(0, 512, 1), 8)
+    refuses(stdout, t, c, 10, s, Call::Extend(0, 512, 1), 8)
 }
 
-fn shortens_named(t: Tally) -> Tally {
+fn shortens_named(stdout: Stdout, t: Tally) -> Tally {
     let c: &[u8] = b"shortening by 0 is refused 4\n\
                      shortening by 1 is done\n\
                      shortening a piece of size 0 is refused 4\n\
@@ -219,18 +262,18 @@ fn shortens_named(t: Tally) -> Tally {
                      shortening a piece of 2^64 - 1 bytes is refused 16\n\
                      shortening a piece at E is refused 13";
     let s = scenes::five();
-    let t = refuses(t, c, 0, s, Call::Shorten(1024, 700, 0), 4);
-    let t = done(t, c, 1, s, Call::Shorten(1024, 700, 1), 2560);
-    let t = refuses(t, c, 2, s, Call::Shorten(1024, 0, 1), 4);
-    let t = refuses(t, c, 3, s, Call::Shorten(1, 1, 0), 4);
-    let t = refuses(t, c, 4, s, Call::Shorten(1024, 701, 1), 16);
-    let t = refuses(t, c, 5, s, Call::Shorten(612, 412, 1), 14);
-    let t = refuses(t, c, 6, s, Call::Shorten(1723, 1, 1), 15);
-    let t = refuses(t, c, 7, s, Call::Shorten(0, LARGEST, LARGEST), 16);
-    refuses(t, c, 8, s, Call::Shorten(2560, 1, 1), 13)
+    let t = refuses(stdout, t, c, 0, s, Call::Shorten(1024, 700, 0), 4);
+    let t = done(stdout, t, c, 1, s, Call::Shorten(1024, 700, 1), 2560);
+    let t = refuses(stdout, t, c, 2, s, Call::Shorten(1024, 0, 1), 4);
+    let t = refuses(stdout, t, c, 3, s, Call::Shorten(1, 1, 0), 4);
+    let t = refuses(stdout, t, c, 4, s, Call::Shorten(1024, 701, 1), 16);
+    let t = refuses(stdout, t, c, 5, s, Call::Shorten(612, 412, 1), 14);
+    let t = refuses(stdout, t, c, 6, s, Call::Shorten(1723, 1, 1), 15);
+    let t = refuses(stdout, t, c, 7, s, Call::Shorten(0, LARGEST, LARGEST), 16);
+    refuses(stdout, t, c, 8, s, Call::Shorten(2560, 1, 1), 13)
 }
 
-fn shortens(t: Tally) -> Tally {
+fn shortens(stdout: Stdout, t: Tally) -> Tally {
     let c: &[u8] = b"one byte may remain of a small piece\n\
                      none may remain of a small piece: refused 9\n\
                      less than none: refused 9\n\
@@ -241,16 +284,25 @@ fn shortens(t: Tally) -> Tally {
                      a cut of 1024 at the end cuts two pages from the file\n\
                      a cut of 1000 at the end cuts one page, and a part page stays";
     let s = scenes::five();
-    let t = done(t, c, 0, s, Call::Shorten(0, 96, 95), 2560);
-    let t = refuses(t, c, 1, s, Call::Shorten(0, 96, 96), 9);
-    let t = refuses(t, c, 2, s, Call::Shorten(0, 96, 97), 9);
-    let t = refuses(t, c, 3, s, Call::Shorten(0, 96, LARGEST), 9);
-    let t = done(t, c, 4, s, Call::Shorten(1024, 700, 188), 2560);
-    let t = refuses(t, c, 5, s, Call::Shorten(1024, 700, 189), 9);
-    let t = refuses(t, c, 6, s, Call::Shorten(1024, 700, LARGEST), 9);
+    let t = done(stdout, t, c, 0, s, Call::Shorten(0, 96, 95), 2560);
+    let t = refuses(stdout, t, c, 1, s, Call::Shorten(0, 96, 96), 9);
+    let t = refuses(stdout, t, c, 2, s, Call::Shorten(0, 96, 97), 9);
+    let t = refuses(stdout, t, c, 3, s, Call::Shorten(0, 96, LARGEST), 9);
+    let t = done(stdout, t, c, 4, s, Call::Shorten(1024, 700, 188), 2560);
+    let t = refuses(stdout, t, c, 5, s, Call::Shorten(1024, 700, 189), 9);
+    let t = refuses(stdout, t, c, 6, s, Call::Shorten(1024, 700, LARGEST), 9);
     let s = scene::after(scenes::empty(), Call::Allocate(RAW, 2048));
-    let t = leaves(t, c, 7, s, Call::Shorten(0, 2048, 1024), one(s, 1024, 3));
+    let t = leaves(
+        stdout,
+        t,
+        c,
+        7,
+        s,
+        Call::Shorten(0, 2048, 1024),
+        one(s, 1024, 3),
+    );
     leaves(
+        stdout,
         t,
         c,
         8,
@@ -260,9 +312,9 @@ fn shortens(t: Tally) -> Tally {
     )
 }
 
-pub fn all(t: Tally) -> Tally {
-    let t = part_pages(wrong_names(releases(t)));
-    let t = extends_at_border(extends_small(t));
-    let t = extends_large(extends_named(t));
-    shortens(shortens_named(t))
+pub fn all(stdout: Stdout, t: Tally) -> Tally {
+    let t = part_pages(stdout, wrong_names(stdout, releases(stdout, t)));
+    let t = extends_at_border(stdout, extends_small(stdout, t));
+    let t = extends_large(stdout, extends_named(stdout, t));
+    shortens(stdout, shortens_named(stdout, t))
 }

@@ -11,6 +11,7 @@ use show::text::{say, say_number};
 use show::{answer, claim, scene, words};
 use space::answers::{count_of, list_number};
 use space::place::{METADATA, RAW};
+use std::io::Stdout;
 
 const LIST_WORDS: usize = 6;
 
@@ -74,23 +75,24 @@ pub fn is_refused(s: Scene, manager: u64, number: u64) -> bool {
     holds(s, found, Answer::Refused(number), UNTOUCHED)
 }
 
-fn say_pair(address: u64, size: u64) {
-    say(b" ");
-    say_number(address);
-    say(b" ");
-    say_number(size);
+fn say_pair(stdout: Stdout, address: u64, size: u64) {
+    say(stdout, b" ");
+    say_number(stdout, address);
+    say(stdout, b" ");
+    say_number(stdout, size);
 }
 
-fn say_answer_and_out(a: Answer, out: [u64; LIST_WORDS]) {
-    answer::say_answer(a);
-    say(b", with the words");
-    say_pair(out[0], out[1]);
-    say_pair(out[2], out[3]);
-    say(b" ..");
+fn say_answer_and_out(stdout: Stdout, a: Answer, out: [u64; LIST_WORDS]) {
+    answer::say_answer(stdout, a);
+    say(stdout, b", with the words");
+    say_pair(stdout, out[0], out[1]);
+    say_pair(stdout, out[2], out[3]);
+    say(stdout, b" ..");
 }
 
 // That a listing into the first `len` words has this answer, and leaves these words.
 fn answers(
+    stdout: Stdout,
     t: Tally,
     text: &[u8],
     k: u64,
@@ -102,20 +104,21 @@ fn answers(
 ) -> Tally {
     let found = list(s, manager, len);
     let held = holds(s, found, expected, words);
-    claim::say_claim(held, text, k);
+    claim::say_claim(stdout, held, text, k);
     if !held {
-        say_answer_and_out(expected, words);
-        say(b", found ");
+        say_answer_and_out(stdout, expected, words);
+        say(stdout, b", found ");
         let said = found.answer;
         let out = found.out;
-        say_answer_and_out(said, out);
-        say(b"\n");
+        say_answer_and_out(stdout, said, out);
+        say(stdout, b"\n");
     }
     t.count(held)
 }
 
 // That one section is listed, and the four words behind it stay.
 fn lists_one(
+    stdout: Stdout,
     t: Tally,
     text: &[u8],
     k: u64,
@@ -126,11 +129,22 @@ fn lists_one(
     size: u64,
 ) -> Tally {
     let words = [address, size, 7, 7, 7, 7];
-    answers(t, text, k, s, manager, len, Answer::Sections(1), words)
+    answers(
+        stdout,
+        t,
+        text,
+        k,
+        s,
+        manager,
+        len,
+        Answer::Sections(1),
+        words,
+    )
 }
 
 // That the listing is refused with this number, and no word is written.
 fn refuses(
+    stdout: Stdout,
     t: Tally,
     text: &[u8],
     k: u64,
@@ -140,7 +154,7 @@ fn refuses(
     number: u64,
 ) -> Tally {
     let expected = Answer::Refused(number);
-    answers(t, text, k, s, manager, len, expected, UNTOUCHED)
+    answers(stdout, t, text, k, s, manager, len, expected, UNTOUCHED)
 }
 
 // Two free sections of raw data: after step 5 a second page of raw data is begun.
@@ -148,7 +162,7 @@ fn two_raw() -> Scene {
     scene::after(scenes::five(), Call::Allocate(RAW, 500))
 }
 
-fn managers(t: Tally) -> Tally {
+fn managers(stdout: Stdout, t: Tally) -> Tally {
     let c: &[u8] = b"listing manager 0 is refused 3\n\
                      manager 1 lists (2058, 502)\n\
                      manager 2 lists (612, 412)\n\
@@ -156,15 +170,15 @@ fn managers(t: Tally) -> Tally {
                      listing manager 4 is refused 3\n\
                      listing manager 2^64 - 1 is refused 3";
     let s = scenes::five();
-    let t = refuses(t, c, 0, s, 0, 6, 3);
-    let t = lists_one(t, c, 1, s, METADATA, 6, 2058, 502);
-    let t = lists_one(t, c, 2, s, RAW, 6, 612, 412);
-    let t = lists_one(t, c, 3, s, 3, 6, 1724, 324);
-    let t = refuses(t, c, 4, s, 4, 6, 3);
-    refuses(t, c, 5, s, LARGEST, 6, 3)
+    let t = refuses(stdout, t, c, 0, s, 0, 6, 3);
+    let t = lists_one(stdout, t, c, 1, s, METADATA, 6, 2058, 502);
+    let t = lists_one(stdout, t, c, 2, s, RAW, 6, 612, 412);
+    let t = lists_one(stdout, t, c, 3, s, 3, 6, 1724, 324);
+    let t = refuses(stdout, t, c, 4, s, 4, 6, 3);
+    refuses(stdout, t, c, 5, s, LARGEST, 6, 3)
 }
 
-fn lengths(t: Tally) -> Tally {
+fn lengths(stdout: Stdout, t: Tally) -> Tally {
     let c: &[u8] = b"no word for one section is refused 10\n\
                      1 word for one section is refused 10\n\
                      2 words hold one section\n\
@@ -173,21 +187,31 @@ fn lengths(t: Tally) -> Tally {
                      4 words hold two sections, in address order\n\
                      no word is enough for no section";
     let s = scenes::five();
-    let t = refuses(t, c, 0, s, RAW, 0, 10);
-    let t = refuses(t, c, 1, s, RAW, 1, 10);
-    let t = lists_one(t, c, 2, s, RAW, 2, 612, 412);
-    let t = refuses(t, c, 3, s, 4, 0, 3);
+    let t = refuses(stdout, t, c, 0, s, RAW, 0, 10);
+    let t = refuses(stdout, t, c, 1, s, RAW, 1, 10);
+    let t = lists_one(stdout, t, c, 2, s, RAW, 2, 612, 412);
+    let t = refuses(stdout, t, c, 3, s, 4, 0, 3);
     let two = two_raw();
-    let t = refuses(t, c, 4, two, RAW, 3, 10);
+    let t = refuses(stdout, t, c, 4, two, RAW, 3, 10);
     let words = [612, 412, 3060, 12, 7, 7];
-    let t = answers(t, c, 5, two, RAW, 4, Answer::Sections(2), words);
+    let t = answers(stdout, t, c, 5, two, RAW, 4, Answer::Sections(2), words);
     let none = scenes::empty();
-    answers(t, c, 6, none, RAW, 0, Answer::Sections(0), UNTOUCHED)
+    answers(
+        stdout,
+        t,
+        c,
+        6,
+        none,
+        RAW,
+        0,
+        Answer::Sections(0),
+        UNTOUCHED,
+    )
 }
 
-pub fn all(t: Tally) -> Tally {
+pub fn all(stdout: Stdout, t: Tally) -> Tally {
     let c: &[u8] = b"listing the state of a refused opening is refused 2";
     let closed = scenes::opened(511, 5120, TABLE_WORDS);
-    let t = refuses(t, c, 0, closed, RAW, 6, 2);
-    lengths(managers(t))
+    let t = refuses(stdout, t, c, 0, closed, RAW, 6, 2);
+    lengths(stdout, managers(stdout, t))
 }

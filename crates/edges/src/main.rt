@@ -16,18 +16,19 @@ mod unsound;
 use show::claim::Tally;
 use show::text::say_line;
 
-fn main() {
-    say_line(b"opening");
-    let t = opening::all(Tally::none());
-    say_line(b"requests");
-    let t = requests::all(t);
-    say_line(b"release, extend, shorten");
-    let t = thousand::all(giving::all(t));
-    say_line(b"full tables");
-    let t = full::all(t);
-    say_line(b"listing");
-    let t = listing::all(t);
-    say_line(b"damaged tables");
-    let t = unsound::all(damage::all(t));
-    t.report(b"edges");
+fn main(rt: HostRuntime) {
+    let stdout = rt.stdout();
+    say_line(stdout, b"opening");
+    let t = opening::all(stdout, Tally::none());
+    say_line(stdout, b"requests");
+    let t = requests::all(stdout, t);
+    say_line(stdout, b"release, extend, shorten");
+    let t = thousand::all(stdout, giving::all(stdout, t));
+    say_line(stdout, b"full tables");
+    let t = full::all(stdout, t);
+    say_line(stdout, b"listing");
+    let t = listing::all(stdout, t);
+    say_line(stdout, b"damaged tables");
+    let t = unsound::all(stdout, damage::all(stdout, t));
+    t.report(stdout, b"edges");
 }

@@ -10,6 +10,7 @@ use show::text::say;
 use show::{answer, case, claim, scene};
 use space::Space;
 use space::answers::{OUT_OF_RANGE, open_number};
+use std::io::Stdout;
 
 // Two entries more than a table may have.
 const LONG_WORDS: usize = 1026 * ENTRY_WORDS;
@@ -59,6 +60,7 @@ fn is_cleared(words: &[u64; LONG_WORDS], len: usize) -> bool {
 
 // That an opening over the first `len` words has this answer, gives this state, and makes so many words 0.
 fn answers(
+    stdout: Stdout,
     t: Tally,
     text: &[u8],
     k: u64,
@@ -78,28 +80,58 @@ fn answers(
     let held = answer::same_answer(expected, found)
         && scene::same_state(given, now)
         && is_cleared(&words, cleared);
-    claim::say_claim(held, text, k);
+    claim::say_claim(stdout, held, text, k);
     if !held {
-        say(b"that answer, its state and its words, found others; the answer found: ");
-        answer::say_answer(found);
-        say(b"\n");
+        say(
+            stdout,
+            b"that answer, its state and its words, found others; the answer found: ",
+        );
+        answer::say_answer(stdout, found);
+        say(stdout, b"\n");
     }
     t.count(held)
 }
 
 // That the opening is done, gives E = 0 and n = 0, and makes every lent word 0.
-fn opens(t: Tally, text: &[u8], k: u64, page: u64, limit: u64, len: usize) -> Tally {
+fn opens(
+    stdout: Stdout,
+    t: Tally,
+    text: &[u8],
+    k: u64,
+    page: u64,
+    limit: u64,
+    len: usize,
+) -> Tally {
     let given = Space {
         page,
         limit,
         end: 0,
         count: 0,
     };
-    answers(t, text, k, page, limit, len, Answer::Done, given, len)
+    answers(
+        stdout,
+        t,
+        text,
+        k,
+        page,
+        limit,
+        len,
+        Answer::Done,
+        given,
+        len,
+    )
 }
 
 // That the opening is refused with 1, gives four zeros, and leaves every word.
-fn refuses(t: Tally, text: &[u8], k: u64, page: u64, limit: u64, len: usize) -> Tally {
+fn refuses(
+    stdout: Stdout,
+    t: Tally,
+    text: &[u8],
+    k: u64,
+    page: u64,
+    limit: u64,
+    len: usize,
+) -> Tally {
     let given = Space {
         page: 0,
         limit: 0,
@@ -107,10 +139,10 @@ fn refuses(t: Tally, text: &[u8], k: u64, page: u64, limit: u64, len: usize) -> 
         count: 0,
     };
     let expected = Answer::Refused(OUT_OF_RANGE);
-    answers(t, text, k, page, limit, len, expected, given, 0)
+    answers(stdout, t, text, k, page, limit, len, expected, given, 0)
 }
 
-fn pages(t: Tally) -> Tally {
+fn pages(stdout: Stdout, t: Tally) -> Tally {
     let c: &[u8] = b"P = 0 is refused 1\n\
                      P = 511 is refused 1\n\
                      P = 512 is opened\n\
@@ -118,31 +150,31 @@ fn pages(t: Tally) -> Tally {
                      P = 2^30 is opened\n\
                      P = 2^30 + 1 is refused 1\n\
                      P = 2^64 - 1 is refused 1";
-    let t = refuses(t, c, 0, 0, 5120, TABLE_WORDS);
-    let t = refuses(t, c, 1, 511, 5120, TABLE_WORDS);
-    let t = opens(t, c, 2, 512, 5120, TABLE_WORDS);
-    let t = opens(t, c, 3, 1000, 5000, TABLE_WORDS);
-    let t = opens(t, c, 4, 1073741824, LARGEST_LIMIT, TABLE_WORDS);
-    let t = refuses(t, c, 5, 1073741825, LARGEST_LIMIT, TABLE_WORDS);
-    refuses(t, c, 6, LARGEST, LARGEST, TABLE_WORDS)
+    let t = refuses(stdout, t, c, 0, 0, 5120, TABLE_WORDS);
+    let t = refuses(stdout, t, c, 1, 511, 5120, TABLE_WORDS);
+    let t = opens(stdout, t, c, 2, 512, 5120, TABLE_WORDS);
+    let t = opens(stdout, t, c, 3, 1000, 5000, TABLE_WORDS);
+    let t = opens(stdout, t, c, 4, 1073741824, LARGEST_LIMIT, TABLE_WORDS);
+    let t = refuses(stdout, t, c, 5, 1073741825, LARGEST_LIMIT, TABLE_WORDS);
+    refuses(stdout, t, c, 6, LARGEST, LARGEST, TABLE_WORDS)
 }
 
-fn limits(t: Tally) -> Tally {
+fn limits(stdout: Stdout, t: Tally) -> Tally {
     let c: &[u8] = b"M = 0 is refused 1\n\
                      M = P - 1 is refused 1\n\
                      M = P is opened\n\
                      M = 2^62 is opened\n\
                      M = 2^62 + 1 is refused 1\n\
                      M = 2^64 - 1 is refused 1";
-    let t = refuses(t, c, 0, 512, 0, TABLE_WORDS);
-    let t = refuses(t, c, 1, 512, 511, TABLE_WORDS);
-    let t = opens(t, c, 2, 512, 512, TABLE_WORDS);
-    let t = opens(t, c, 3, 512, LARGEST_LIMIT, TABLE_WORDS);
-    let t = refuses(t, c, 4, 512, LARGEST_LIMIT + 1, TABLE_WORDS);
-    refuses(t, c, 5, 512, LARGEST, TABLE_WORDS)
+    let t = refuses(stdout, t, c, 0, 512, 0, TABLE_WORDS);
+    let t = refuses(stdout, t, c, 1, 512, 511, TABLE_WORDS);
+    let t = opens(stdout, t, c, 2, 512, 512, TABLE_WORDS);
+    let t = opens(stdout, t, c, 3, 512, LARGEST_LIMIT, TABLE_WORDS);
+    let t = refuses(stdout, t, c, 4, 512, LARGEST_LIMIT + 1, TABLE_WORDS);
+    refuses(stdout, t, c, 5, 512, LARGEST, TABLE_WORDS)
 }
 
-fn lengths(t: Tally) -> Tally {
+fn lengths(stdout: Stdout, t: Tally) -> Tally {
     let c: &[u8] = b"a table of no words is refused 1\n\
                      9 words are refused 1\n\
                      11 words are refused 1\n\
@@ -153,27 +185,27 @@ fn lengths(t: Tally) -> Tally {
                      3072 words are opened, C = 1024\n\
                      3073 words are refused 1\n\
                      3075 words are refused 1";
-    let t = refuses(t, c, 0, 512, 5120, 0);
-    let t = refuses(t, c, 1, 512, 5120, 3 * ENTRY_WORDS);
-    let t = refuses(t, c, 2, 512, 5120, LEAST_WORDS - 1);
-    let t = opens(t, c, 3, 512, 5120, LEAST_WORDS);
-    let t = refuses(t, c, 4, 512, 5120, LEAST_WORDS + 1);
-    let t = refuses(t, c, 5, 512, 5120, LEAST_WORDS + 2);
-    let t = opens(t, c, 6, 512, 5120, 5 * ENTRY_WORDS);
-    let t = opens(t, c, 7, 512, 5120, MOST_WORDS);
-    let t = refuses(t, c, 8, 512, 5120, MOST_WORDS + 1);
-    refuses(t, c, 9, 512, 5120, 1025 * ENTRY_WORDS)
+    let t = refuses(stdout, t, c, 0, 512, 5120, 0);
+    let t = refuses(stdout, t, c, 1, 512, 5120, 3 * ENTRY_WORDS);
+    let t = refuses(stdout, t, c, 2, 512, 5120, LEAST_WORDS - 1);
+    let t = opens(stdout, t, c, 3, 512, 5120, LEAST_WORDS);
+    let t = refuses(stdout, t, c, 4, 512, 5120, LEAST_WORDS + 1);
+    let t = refuses(stdout, t, c, 5, 512, 5120, LEAST_WORDS + 2);
+    let t = opens(stdout, t, c, 6, 512, 5120, 5 * ENTRY_WORDS);
+    let t = opens(stdout, t, c, 7, 512, 5120, MOST_WORDS);
+    let t = refuses(stdout, t, c, 8, 512, 5120, MOST_WORDS + 1);
+    refuses(stdout, t, c, 9, 512, 5120, 1025 * ENTRY_WORDS)
 }
 
-fn by_default(t: Tally) -> Tally {
+fn by_default(stdout: Stdout, t: Tally) -> Tally {
     let c: &[u8] = b"the default opening has P = 65536 and M = 2^62";
     let opened = scene::open_default();
     let found = opened.scene;
     let given = scene::open(65536, LARGEST_LIMIT, scene::WORDS);
     let expected = given.scene;
-    case::same(t, c, 0, expected, found)
+    case::same(stdout, t, c, 0, expected, found)
 }
 
-pub fn all(t: Tally) -> Tally {
-    by_default(lengths(limits(pages(t))))
+pub fn all(stdout: Stdout, t: Tally) -> Tally {
+    by_default(stdout, lengths(stdout, limits(stdout, pages(stdout, t))))
 }

@@ -9,6 +9,7 @@ use crate::{TABLE_WORDS, calls, give, info, summary};
 use figures::numbers::Number;
 use figures::signed::Signed;
 use say::{map, report, sheet, tables};
+use std::io::Stdout;
 
 // The numbers of a line: read up to a place, or why not.
 #[derive(Clone, Copy)]
@@ -59,6 +60,7 @@ fn read_numbers(call: Call, line: &[u8], from: usize, count: usize, args: &mut [
 
 // The call on its numbers.
 fn play(
+    stdout: Stdout,
     run: Run,
     call: Call,
     count: usize,
@@ -69,22 +71,23 @@ fn play(
     ensures { result.used ≤ table_words }
 {
     match call {
-        Call::Open | Call::Default => give::open(run, call, args, table),
+        Call::Open | Call::Default => give::open(stdout, run, call, args, table),
         Call::List => {
-            give::list(run, args, table);
+            give::list(stdout, run, args, table);
             run
         }
-        Call::State => give::state(run, args),
-        Call::Words => give::words(run, count, args, table),
+        Call::State => give::state(stdout, run, args),
+        Call::Words => give::words(stdout, run, count, args, table),
         Call::Write => {
-            info::write(run.line, args);
+            info::write(stdout, run.line, args);
             run
         }
-        _ => give::change(run, call, args, table),
+        _ => give::change(stdout, run, call, args, table),
     }
 }
 
 fn answer_numbers(
+    stdout: Stdout,
     run: Run,
     call: Call,
     line: &[u8],
@@ -97,21 +100,21 @@ fn answer_numbers(
 {
     let mut args = [0u64; TABLE_WORDS];
     if TABLE_WORDS < count {
-        report::wrong(run.line, b"too many");
+        report::wrong(stdout, run.line, b"too many");
         return run;
     }
     match read_numbers(call, line, from, count, &mut args) {
         Numbers::To(_) => {
-            return play(run, call, count, &args, table);
+            return play(stdout, run, call, count, &args, table);
         }
-        Numbers::TooLarge => report::too_large(run.line),
-        Numbers::NoNumber => report::no_number(run.line),
+        Numbers::TooLarge => report::too_large(stdout, run.line),
+        Numbers::NoNumber => report::no_number(stdout, run.line),
     }
     run
 }
 
 // The last number of a summary, behind its totals.
-fn answer_moved(run: Run, totals: &[u64; TOTALS], line: &[u8], from: usize) -> Run
+fn answer_moved(stdout: Stdout, run: Run, totals: &[u64; TOTALS], line: &[u8], from: usize) -> Run
     requires { from ≤ length line.now }
     ensures { result.used ≡ run.used }
 {
@@ -120,72 +123,72 @@ fn answer_moved(run: Run, totals: &[u64; TOTALS], line: &[u8], from: usize) -> R
     let end = word.to;
     match figures::signed::signed_of(&line[start..end]) {
         Signed::Is(moved) => {
-            return summary::set(run, totals, moved);
+            return summary::set(stdout, run, totals, moved);
         }
-        Signed::TooLarge => report::too_large(run.line),
-        Signed::NoNumber => report::no_number(run.line),
+        Signed::TooLarge => report::too_large(stdout, run.line),
+        Signed::NoNumber => report::no_number(stdout, run.line),
     }
     run
 }
 
 // The numbers of a summary.
-fn answer_summary(run: Run, line: &[u8], from: usize) -> Run
+fn answer_summary(stdout: Stdout, run: Run, line: &[u8], from: usize) -> Run
     requires { from ≤ length line.now }
     ensures { result.used ≡ run.used }
 {
     let mut totals = [0u64; TOTALS];
     match read_numbers(Call::Summary, line, from, TOTALS, &mut totals) {
         Numbers::To(end) => {
-            return answer_moved(run, &totals, line, end);
+            return answer_moved(stdout, run, &totals, line, end);
         }
-        Numbers::TooLarge => report::too_large(run.line),
-        Numbers::NoNumber => report::no_number(run.line),
+        Numbers::TooLarge => report::too_large(stdout, run.line),
+        Numbers::NoNumber => report::no_number(stdout, run.line),
     }
     run
 }
 
 // The one word that `show` takes.
-fn show(run: Run, line: &[u8], from: usize, table: &[u64])
+fn show(stdout: Stdout, run: Run, line: &[u8], from: usize, table: &[u64])
     requires { (from ≤ length line.now) × (run.used ≤ length table.now) }
 {
     let word = script::words::next_word(line, from);
     let start = word.from;
     let end = word.to;
     if script::words::is_text(&line[start..end], b"words") {
-        tables::show_words(run.used, table);
+        tables::show_words(stdout, run.used, table);
         return;
     }
     if script::words::is_text(&line[start..end], b"summary") {
-        sheet::numbers(run.summary);
+        sheet::numbers(stdout, run.summary);
         return;
     }
-    report::wrong(run.line, b"no call");
+    report::wrong(stdout, run.line, b"no call");
 }
 
-fn read(number: u64, line: &[u8], from: usize)
+fn read(stdout: Stdout, number: u64, line: &[u8], from: usize)
     requires { (from ≤ length line.now) × (length line.now ≤ line_bytes) }
 {
     let word = script::words::next_word(line, from);
     let start = word.from;
     let end = word.to;
-    info::read(number, &line[start..end]);
+    info::read(stdout, number, &line[start..end]);
 }
 
 // A call that changes nothing, and reads no numbers.
-fn look(run: Run, call: Call, line: &[u8], from: usize, table: &[u64])
+fn look(stdout: Stdout, run: Run, call: Call, line: &[u8], from: usize, table: &[u64])
     requires { (run.used ≤ length table.now) × ((from ≤ length line.now) × (length line.now ≤ line_bytes)) }
 {
     match call {
-        Call::Table => tables::table(run.space, run.used, table),
-        Call::Map => map::map(run.space, run.used, table),
-        Call::Sheet => sheet::sheet(run.summary),
-        Call::Show => show(run, line, from, table),
-        Call::Read => read(run.line, line, from),
-        _ => report::wrong(run.line, b"no call"),
+        Call::Table => tables::table(stdout, run.space, run.used, table),
+        Call::Map => map::map(stdout, run.space, run.used, table),
+        Call::Sheet => sheet::sheet(stdout, run.summary),
+        Call::Show => show(stdout, run, line, from, table),
+        Call::Read => read(stdout, run.line, line, from),
+        _ => report::wrong(stdout, run.line, b"no call"),
     }
 }
 
-pub fn answer(run: Run, line: &[u8], table: &mut [u64; TABLE_WORDS]) -> Run
+pub fn answer(stdout: Stdout, run: Run, line: &[u8], table: &mut [u64; TABLE_WORDS]) -> Run
     requires { (run.used ≤ table_words) × (length line.now ≤ line_bytes) }
     ensures { result.used ≤ table_words }
 {
@@ -198,17 +201,17 @@ pub fn answer(run: Run, line: &[u8], table: &mut [u64; TABLE_WORDS]) -> Run
     let call = calls::call_of(&line[start..end]);
     let count = script::words::count_words(line, end);
     if !calls::takes(call, count) {
-        report::wrong(run.line, b"wrong count of words");
+        report::wrong(stdout, run.line, b"wrong count of words");
         return run;
     }
     if calls::reads_numbers(call) {
-        return answer_numbers(run, call, line, end, count, table);
+        return answer_numbers(stdout, run, call, line, end, count, table);
     }
     match call {
-        Call::Summary => answer_summary(run, line, end),
-        Call::Fresh => summary::fresh(run, table),
+        Call::Summary => answer_summary(stdout, run, line, end),
+        Call::Fresh => summary::fresh(stdout, run, table),
         _ => {
-            look(run, call, line, end, table);
+            look(stdout, run, call, line, end, table);
             run
         }
     }

@@ -15,6 +15,7 @@ use space::answers::{
     DONE, address_of, allocate_number, count_of, list_number, open_number, release_number,
     resize_number,
 };
+use std::io::Stdout;
 use totals::Summary;
 
 // The words of a table that is lent anew.
@@ -27,14 +28,14 @@ fn clear(table: &mut [u64]) {
 }
 
 // An opening is answered, and the next call gets what it left.
-fn told_opened(run: Run, used: usize, r: OpenedOn) -> Run
+fn told_opened(stdout: Stdout, run: Run, used: usize, r: OpenedOn) -> Run
     ensures { result.used ≡ used }
 {
     let done = r.opened;
     let space = done.space;
     let answer = done.answer;
     let summary = r.summary;
-    report::told(space, open_number(answer));
+    report::told(stdout, space, open_number(answer));
     run.lent(space, used).after(space, summary)
 }
 
@@ -60,20 +61,26 @@ fn entries_named(call: Call, args: &[u64; TABLE_WORDS]) -> u64 {
     }
 }
 
-pub fn open(run: Run, call: Call, args: &[u64; TABLE_WORDS], table: &mut [u64]) -> Run
+pub fn open(
+    stdout: Stdout,
+    run: Run,
+    call: Call,
+    args: &[u64; TABLE_WORDS],
+    table: &mut [u64],
+) -> Run
     requires { (run.used ≤ table_words) × (length table.old ≡ table_words) }
     ensures { result.used ≤ table_words }
 {
     let entries = entries_named(call, args);
     if (MOST_ENTRIES as u64) < entries {
-        report::wrong(run.line, b"too many");
+        report::wrong(stdout, run.line, b"too many");
         return run;
     }
     clear(table);
     let used = entries as usize * ENTRY_WORDS;
     let given = run.summary;
     let r = opened(call, args, &mut table[..used], given);
-    told_opened(run, used, r)
+    told_opened(stdout, run, used, r)
 }
 
 // The piece that a call names, and by how much it changes.
@@ -85,7 +92,7 @@ fn change_of(args: &[u64; TABLE_WORDS]) -> Change {
     }
 }
 
-fn allocate(run: Run, args: &[u64; TABLE_WORDS], table: &mut [u64]) -> Run
+fn allocate(stdout: Stdout, run: Run, args: &[u64; TABLE_WORDS], table: &mut [u64]) -> Run
     ensures { result.used ≡ run.used }
 {
     let request = Request {
@@ -99,11 +106,11 @@ fn allocate(run: Run, args: &[u64; TABLE_WORDS], table: &mut [u64]) -> Run
     let now = done.space;
     let answer = done.answer;
     let summary = r.summary;
-    report::placed(now, allocate_number(answer), address_of(answer));
+    report::placed(stdout, now, allocate_number(answer), address_of(answer));
     run.after(now, summary)
 }
 
-fn release(run: Run, args: &[u64; TABLE_WORDS], table: &mut [u64]) -> Run
+fn release(stdout: Stdout, run: Run, args: &[u64; TABLE_WORDS], table: &mut [u64]) -> Run
     ensures { result.used ≡ run.used }
 {
     let named = Named {
@@ -117,69 +124,75 @@ fn release(run: Run, args: &[u64; TABLE_WORDS], table: &mut [u64]) -> Run
     let now = done.space;
     let answer = done.answer;
     let summary = r.summary;
-    report::told(now, release_number(answer));
+    report::told(stdout, now, release_number(answer));
     run.after(now, summary)
 }
 
 // An extend or a shorten is answered, and the next call gets what it left.
-fn told_resized(run: Run, r: ResizedOn) -> Run
+fn told_resized(stdout: Stdout, run: Run, r: ResizedOn) -> Run
     ensures { result.used ≡ run.used }
 {
     let done = r.resized;
     let now = done.space;
     let answer = done.answer;
     let summary = r.summary;
-    report::told(now, resize_number(answer));
+    report::told(stdout, now, resize_number(answer));
     run.after(now, summary)
 }
 
 // The call, on the lent table with the summary.
-fn ask(run: Run, call: Call, args: &[u64; TABLE_WORDS], table: &mut [u64]) -> Run
+fn ask(stdout: Stdout, run: Run, call: Call, args: &[u64; TABLE_WORDS], table: &mut [u64]) -> Run
     ensures { result.used ≡ run.used }
 {
     let space = run.space;
     let given = run.summary;
     match call {
-        Call::Allocate => allocate(run, args, table),
-        Call::Release => release(run, args, table),
+        Call::Allocate => allocate(stdout, run, args, table),
+        Call::Release => release(stdout, run, args, table),
         Call::Extend => {
             let r = own_summary::extend(space, table, given, change_of(args));
-            told_resized(run, r)
+            told_resized(stdout, run, r)
         }
         _ => {
             let r = own_summary::shorten(space, table, given, change_of(args));
-            told_resized(run, r)
+            told_resized(stdout, run, r)
         }
     }
 }
 
-pub fn change(run: Run, call: Call, args: &[u64; TABLE_WORDS], table: &mut [u64]) -> Run
+pub fn change(
+    stdout: Stdout,
+    run: Run,
+    call: Call,
+    args: &[u64; TABLE_WORDS],
+    table: &mut [u64],
+) -> Run
     requires { (run.used ≤ table_words) × (length table.old ≡ table_words) }
     ensures { result.used ≤ table_words }
 {
     let used = run.used;
-    ask(run, call, args, &mut table[..used])
+    ask(stdout, run, call, args, &mut table[..used])
 }
 
 // The sections that a listing wrote: address and size of each.
-fn say_sections(count: u64, room: &[u64; MOST_ROOM]) {
-    say::number(count);
-    say::text(b" sections:");
+fn say_sections(stdout: Stdout, count: u64, room: &[u64; MOST_ROOM]) {
+    say::number(stdout, count);
+    say::text(stdout, b" sections:");
     let mut i = 0;
     while i < MOST_ROOM / PAIR_WORDS && (i as u64) < count {
         let at = i * PAIR_WORDS;
-        say::labelled(b" ", room[at]);
-        say::labelled(b"+", room[at + 1]);
+        say::labelled(stdout, b" ", room[at]);
+        say::labelled(stdout, b"+", room[at + 1]);
         i += 1;
     }
 }
 
-pub fn list(run: Run, args: &[u64; TABLE_WORDS], table: &[u64])
+pub fn list(stdout: Stdout, run: Run, args: &[u64; TABLE_WORDS], table: &[u64])
     requires { run.used ≤ length table.now }
 {
     let mut room = [0u64; MOST_ROOM];
     if (MOST_ROOM as u64) < args[1] {
-        report::wrong(run.line, b"too many");
+        report::wrong(stdout, run.line, b"too many");
         return;
     }
     let wanted = args[1] as usize;
@@ -189,14 +202,14 @@ pub fn list(run: Run, args: &[u64; TABLE_WORDS], table: &[u64])
     let answer = r.answer;
     let number = list_number(answer);
     if number == DONE {
-        say_sections(count_of(answer), &room);
+        say_sections(stdout, count_of(answer), &room);
     } else {
-        report::say_told(number);
+        report::say_told(stdout, number);
     }
-    say::text(b"\n");
+    say::text(stdout, b"\n");
 }
 
-pub fn state(run: Run, args: &[u64; TABLE_WORDS]) -> Run
+pub fn state(stdout: Stdout, run: Run, args: &[u64; TABLE_WORDS]) -> Run
     ensures { result.used ≡ run.used }
 {
     let space = Space {
@@ -205,7 +218,7 @@ pub fn state(run: Run, args: &[u64; TABLE_WORDS]) -> Run
         end: args[2],
         count: args[3],
     };
-    say::text(b"set\n");
+    say::text(stdout, b"set\n");
     run.lent(space, run.used)
 }
 
@@ -219,12 +232,12 @@ pub fn copy(from: &[u64], to: &mut [u64])
     }
 }
 
-pub fn words(run: Run, count: usize, args: &[u64], table: &mut [u64]) -> Run
+pub fn words(stdout: Stdout, run: Run, count: usize, args: &[u64], table: &mut [u64]) -> Run
     requires { (count ≤ table_words) × ((length args.now ≡ table_words) × (length table.old ≡ table_words)) }
     ensures { result.used ≤ table_words }
 {
     copy(&args[..count], table);
-    say::text(b"set\n");
+    say::text(stdout, b"set\n");
     let space = run.space;
     run.lent(space, count)
 }

@@ -6,6 +6,7 @@ use crate::{MOST_ROOM, TABLE_WORDS};
 use message::{Answer, Fields};
 use say::report;
 use space::answers::DONE;
+use std::io::Stdout;
 
 const TYPES: usize = 6;
 
@@ -21,56 +22,56 @@ const BYTES: usize = 50000;
 // The lent bytes before a message is written.
 const LENT: u8 = 0xaa;
 
-fn say_addresses(addresses: &[u64; TYPES]) {
-    say::words(addresses);
+fn say_addresses(stdout: Stdout, addresses: &[u64; TYPES]) {
+    say::words(stdout, addresses);
 }
 
-fn say_fields(fields: Fields) {
-    say::labelled(b"strategy ", fields.strategy as u64);
-    say::labelled(b"; persist ", fields.persist as u64);
-    say::labelled(b"; threshold ", fields.threshold);
-    say::labelled(b"; page ", fields.page);
-    say::labelled(b"; page-end ", fields.page_end as u64);
-    say::labelled(b"; eoa ", fields.eoa);
-    say::text(b"; small");
+fn say_fields(stdout: Stdout, fields: Fields) {
+    say::labelled(stdout, b"strategy ", fields.strategy as u64);
+    say::labelled(stdout, b"; persist ", fields.persist as u64);
+    say::labelled(stdout, b"; threshold ", fields.threshold);
+    say::labelled(stdout, b"; page ", fields.page);
+    say::labelled(stdout, b"; page-end ", fields.page_end as u64);
+    say::labelled(stdout, b"; eoa ", fields.eoa);
+    say::text(stdout, b"; small");
     let small = fields.small;
-    say_addresses(&small);
-    say::text(b"; large");
+    say_addresses(stdout, &small);
+    say::text(stdout, b"; large");
     let large = fields.large;
-    say_addresses(&large);
+    say_addresses(stdout, &large);
 }
 
 // The fields, or the refusal.
-fn say_read(answer: Answer, fields: Fields) {
+fn say_read(stdout: Stdout, answer: Answer, fields: Fields) {
     let number = message::number_of(answer);
     if number == DONE {
-        say_fields(fields);
+        say_fields(stdout, fields);
         return;
     }
-    report::say_told(number);
+    report::say_told(stdout, number);
 }
 
-fn say_message(bytes: &[u8]) {
+fn say_message(stdout: Stdout, bytes: &[u8]) {
     let r = message::read(bytes);
     let answer = r.answer;
     let fields = r.fields;
-    say_read(answer, fields);
+    say_read(stdout, answer, fields);
     let rest = message::rest(bytes);
-    say::labelled(b"; ", rest.len() as u64);
-    say::text(b" bytes follow\n");
+    say::labelled(stdout, b"; ", rest.len() as u64);
+    say::text(stdout, b" bytes follow\n");
 }
 
-pub fn read(line: u64, word: &[u8])
+pub fn read(stdout: Stdout, line: u64, word: &[u8])
     requires { length word.now ≤ line_bytes }
 {
     let mut bytes = [0u8; BYTES];
     if figures::bytes::is_hex(word) {
         let n = word.len() / 2;
         figures::bytes::unhex(word, &mut bytes);
-        say_message(&bytes[..n]);
+        say_message(stdout, &bytes[..n]);
         return;
     }
-    report::wrong(line, b"not hex");
+    report::wrong(stdout, line, b"not hex");
 }
 
 fn addresses(args: &[u64; TABLE_WORDS], from: usize) -> [u64; TYPES]
@@ -116,23 +117,23 @@ fn fields_of(args: &[u64; TABLE_WORDS]) -> Fields
     }
 }
 
-fn write_into(fields: Fields, room: &mut [u8]) {
+fn write_into(stdout: Stdout, fields: Fields, room: &mut [u8]) {
     let number = message::number_of(message::write(fields, room));
     if number == DONE {
-        say::text(b"wrote ");
-        say::hex(room);
+        say::text(stdout, b"wrote ");
+        say::hex(stdout, room);
     } else {
-        report::say_told(number);
+        report::say_told(stdout, number);
     }
-    say::text(b"\n");
+    say::text(stdout, b"\n");
 }
 
-pub fn write(line: u64, args: &[u64; TABLE_WORDS]) {
+pub fn write(stdout: Stdout, line: u64, args: &[u64; TABLE_WORDS]) {
     let mut bytes = [LENT; MOST_ROOM];
     if fits(args) {
         let room = args[ROOM_AT] as usize;
-        write_into(fields_of(args), &mut bytes[..room]);
+        write_into(stdout, fields_of(args), &mut bytes[..room]);
         return;
     }
-    report::wrong(line, b"too many");
+    report::wrong(stdout, line, b"too many");
 }

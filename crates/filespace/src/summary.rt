@@ -6,6 +6,7 @@ use crate::carry::Run;
 use crate::give;
 use by_value::fresh_number;
 use say::report;
+use std::io::Stdout;
 use totals::{DECADES, MANAGERS, Summary};
 
 // Of each manager the number of its sections, their bytes and the largest.
@@ -29,16 +30,16 @@ fn summary_of(totals: &[u64; TOTALS], moved: i64) -> Summary {
     }
 }
 
-pub fn set(run: Run, totals: &[u64; TOTALS], moved: i64) -> Run
+pub fn set(stdout: Stdout, run: Run, totals: &[u64; TOTALS], moved: i64) -> Run
     ensures { result.used ≡ run.used }
 {
-    say::text(b"set\n");
+    say::text(stdout, b"set\n");
     let space = run.space;
     run.after(space, summary_of(totals, moved))
 }
 
 // The state stays as it is, so the answer does not say it.
-pub fn fresh(run: Run, table: &[u64]) -> Run
+pub fn fresh(stdout: Stdout, run: Run, table: &[u64]) -> Run
     requires { (run.used ≤ table_words) × (length table.now ≡ table_words) }
     ensures { result.used ≡ run.used }
 {
@@ -49,7 +50,7 @@ pub fn fresh(run: Run, table: &[u64]) -> Run
     let done = r.freshened;
     let answer = done.answer;
     let summary = r.summary;
-    report::say_told(fresh_number(answer));
-    say::text(b"\n");
+    report::say_told(stdout, fresh_number(answer));
+    say::text(stdout, b"\n");
     run.after(space, summary)
 }

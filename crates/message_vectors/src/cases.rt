@@ -8,6 +8,7 @@ use message::Fields;
 use script::words::is_text;
 use show::text::say;
 use show::words::same_words;
+use std::io::Stdout;
 
 // How long a message is without persistence, and with its addresses.
 pub const HEAD: usize = 29;
@@ -116,61 +117,64 @@ fn same_six(a: [u64; 6], b: [u64; 6]) -> bool {
     same_words(&a, &b)
 }
 
-fn same_heads(a: Fields, b: Fields) -> bool {
-    agree(tell::STRATEGY, a.strategy as u64, b.strategy as u64)
-        && agree(tell::PERSIST, a.persist as u64, b.persist as u64)
-        && agree(tell::THRESHOLD, a.threshold, b.threshold)
-        && agree(tell::PAGE, a.page, b.page)
-        && agree(tell::PAGE_END, a.page_end as u64, b.page_end as u64)
-        && agree(tell::EOA, a.eoa, b.eoa)
+fn same_heads(stdout: Stdout, a: Fields, b: Fields) -> bool {
+    agree(stdout, tell::STRATEGY, a.strategy as u64, b.strategy as u64)
+        && agree(stdout, tell::PERSIST, a.persist as u64, b.persist as u64)
+        && agree(stdout, tell::THRESHOLD, a.threshold, b.threshold)
+        && agree(stdout, tell::PAGE, a.page, b.page)
+        && agree(stdout, tell::PAGE_END, a.page_end as u64, b.page_end as u64)
+        && agree(stdout, tell::EOA, a.eoa, b.eoa)
 }
 
-fn same_fields(a: Fields, b: Fields) -> bool {
+fn same_fields(stdout: Stdout, a: Fields, b: Fields) -> bool {
     let a_small = a.small;
     let b_small = b.small;
     let a_large = a.large;
     let b_large = b.large;
-    if same_heads(a, b) && same_six(a_small, b_small) && same_six(a_large, b_large) {
+    if same_heads(stdout, a, b) && same_six(a_small, b_small) && same_six(a_large, b_large) {
         return true;
     }
-    say(b"found other fields\n");
+    say(stdout, b"found other fields\n");
     false
 }
 
 // Whether read answers this number and these fields for the bytes.
-fn answers(bytes: &[u8], number: u64, fields: Fields) -> bool {
+fn answers(stdout: Stdout, bytes: &[u8], number: u64, fields: Fields) -> bool {
     let found = message::read(bytes);
     let answer = found.answer;
     let found_fields = found.fields;
-    agree(tell::READ, number, message::number_of(answer)) && same_fields(fields, found_fields)
+    agree(stdout, tell::READ, number, message::number_of(answer))
+        && same_fields(stdout, fields, found_fields)
 }
 
 // Whether the bytes are read so: the answer's number, the fields, and how many bytes follow.
-pub fn reads(bytes: &[u8], number: u64, fields: Fields, follows: usize) -> bool {
+pub fn reads(stdout: Stdout, bytes: &[u8], number: u64, fields: Fields, follows: usize) -> bool {
     let rest = message::rest(bytes);
-    agree(tell::FOLLOW, follows as u64, rest.len() as u64) && answers(bytes, number, fields)
+    agree(stdout, tell::FOLLOW, follows as u64, rest.len() as u64)
+        && answers(stdout, bytes, number, fields)
 }
 
 // Whether a block has the bytes of another.
-pub fn same_block(expected: &[u8; BLOCK], found: &[u8; BLOCK]) -> bool {
+pub fn same_block(stdout: Stdout, expected: &[u8; BLOCK], found: &[u8; BLOCK]) -> bool {
     if is_text(found, expected) {
         return true;
     }
-    say(b"found other bytes in the block\n");
+    say(stdout, b"found other bytes in the block\n");
     false
 }
 
 // Whether the fields are written so into n bytes of a block: the answer's number, and every byte of the block afterwards.
-pub fn writes(fields: Fields, n: usize, number: u64, expected: &[u8; BLOCK]) -> bool
+pub fn writes(stdout: Stdout, fields: Fields, n: usize, number: u64, expected: &[u8; BLOCK]) -> bool
     requires { n ≤ 200 }
 {
     let mut block = untouched();
     let answer = message::write(fields, &mut block[..n]);
-    agree(tell::WRITE, number, message::number_of(answer)) && same_block(expected, &block)
+    agree(stdout, tell::WRITE, number, message::number_of(answer))
+        && same_block(stdout, expected, &block)
 }
 
 // What a claim says of a read message.
-pub fn say_read(number: u64, follows: usize) {
-    item(tell::READ, number);
-    item(tell::FOLLOW, follows as u64);
+pub fn say_read(stdout: Stdout, number: u64, follows: usize) {
+    item(stdout, tell::READ, number);
+    item(stdout, tell::FOLLOW, follows as u64);
 }

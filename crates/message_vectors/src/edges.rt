@@ -7,6 +7,7 @@ use crate::tell;
 use crate::tell::{agree, begin, finish, item};
 use message::Fields;
 use show::claim::Tally;
+use std::io::Stdout;
 
 // A case has one place in each of these: page size, strategy, persist, the last small address, and whether the fields keep the rules.
 const CASES: usize = 10;
@@ -49,50 +50,50 @@ fn with(fields: Fields, i: usize) -> Fields
 }
 
 // Fields that keep the rules are written and read back.
-fn kept(fields: Fields) -> bool {
+fn kept(stdout: Stdout, fields: Fields) -> bool {
     let mut block = untouched();
     let answer = message::write(fields, &mut block);
-    agree(tell::WRITE, 0, message::number_of(answer))
-        && reads(&block, 0, fields, BLOCK - length_due(fields))
+    agree(stdout, tell::WRITE, 0, message::number_of(answer))
+        && reads(stdout, &block, 0, fields, BLOCK - length_due(fields))
 }
 
 // Fields that break one are refused.
-fn broken(fields: Fields) -> bool {
+fn broken(stdout: Stdout, fields: Fields) -> bool {
     let blank = untouched();
-    writes(fields, BLOCK, 12, &blank) && writes(fields, 0, 12, &blank)
+    writes(stdout, fields, BLOCK, 12, &blank) && writes(stdout, fields, 0, 12, &blank)
 }
 
 // What the claim of a case says of its fields.
-fn say_fields(held: bool, fields: Fields) {
+fn say_fields(stdout: Stdout, held: bool, fields: Fields) {
     let small = fields.small;
-    begin(held, tell::PAGE, fields.page);
-    item(tell::STRATEGY, fields.strategy as u64);
-    item(tell::PERSIST, fields.persist as u64);
-    item(tell::ADDRESS, small[5]);
+    begin(stdout, held, tell::PAGE, fields.page);
+    item(stdout, tell::STRATEGY, fields.strategy as u64);
+    item(stdout, tell::PERSIST, fields.persist as u64);
+    item(stdout, tell::ADDRESS, small[5]);
 }
 
-fn edge(t: Tally, fields: Fields, keeps: bool) -> Tally {
+fn edge(stdout: Stdout, t: Tally, fields: Fields, keeps: bool) -> Tally {
     if keeps {
-        let held = kept(fields);
-        say_fields(held, fields);
-        item(tell::WRITE, 0);
-        say_read(0, BLOCK - length_due(fields));
-        return finish(t, held);
+        let held = kept(stdout, fields);
+        say_fields(stdout, held, fields);
+        item(stdout, tell::WRITE, 0);
+        say_read(stdout, 0, BLOCK - length_due(fields));
+        return finish(stdout, t, held);
     }
-    let held = broken(fields);
-    say_fields(held, fields);
-    item(tell::WRITE, 12);
-    item(tell::INTO_NONE, 12);
-    finish(t, held)
+    let held = broken(stdout, fields);
+    say_fields(stdout, held, fields);
+    item(stdout, tell::WRITE, 12);
+    item(stdout, tell::INTO_NONE, 12);
+    finish(stdout, t, held)
 }
 
 // The fields of the good message have every address all ones.
-pub fn edges(t: Tally, good: &[u8; BLOCK]) -> Tally {
+pub fn edges(stdout: Stdout, t: Tally, good: &[u8; BLOCK]) -> Tally {
     let fields = fields_in(good);
     let mut t = t;
     let mut i = 0;
     while i < CASES {
-        t = edge(t, with(fields, i), KEEPS[i]);
+        t = edge(stdout, t, with(fields, i), KEEPS[i]);
         i += 1;
     }
     t

@@ -9,11 +9,13 @@ use crate::tell;
 use crate::tell::{begin, end, finish, item, labelled};
 use message::Fields;
 use show::claim::Tally;
+use std::io::Stdout;
 
 const MOST: usize = 130;
 
 // Whether n bytes of the block are read so, and the fields written into as many. A length that is not is printed.
 fn is_due(
+    stdout: Stdout,
     block: &[u8; BLOCK],
     n: usize,
     number: u64,
@@ -24,23 +26,25 @@ fn is_due(
 ) -> bool
     requires { n ≤ 200 }
 {
-    if reads(head(block, n), number, found, follows) && writes(fields, n, number, expected) {
+    if reads(stdout, head(block, n), number, found, follows)
+        && writes(stdout, fields, n, number, expected)
+    {
         return true;
     }
-    labelled(tell::LENGTH, n as u64);
-    end();
+    labelled(stdout, tell::LENGTH, n as u64);
+    end(stdout);
     false
 }
 
 // Whether every length below that of the message is too short.
-fn are_short(block: &[u8; BLOCK], length: usize, fields: Fields) -> bool
+fn are_short(stdout: Stdout, block: &[u8; BLOCK], length: usize, fields: Fields) -> bool
     requires { length ≤ 125 }
 {
     let none = no_fields();
     let blank = untouched();
     let mut n = 0;
     while n < length {
-        if !is_due(block, n, 10, none, n, fields, &blank) {
+        if !is_due(stdout, block, n, 10, none, n, fields, &blank) {
             return false;
         }
         n += 1;
@@ -49,13 +53,13 @@ fn are_short(block: &[u8; BLOCK], length: usize, fields: Fields) -> bool
 }
 
 // Whether every length from that of the message on is enough.
-fn are_enough(block: &[u8; BLOCK], length: usize, fields: Fields) -> bool
+fn are_enough(stdout: Stdout, block: &[u8; BLOCK], length: usize, fields: Fields) -> bool
     requires { length ≤ 125 }
 {
     let written = block_with(head(block, length), 0);
     let mut n = length;
     while n <= MOST {
-        if !is_due(block, n, 0, fields, n - length, fields, &written) {
+        if !is_due(stdout, block, n, 0, fields, n - length, fields, &written) {
             return false;
         }
         n += 1;
@@ -65,6 +69,7 @@ fn are_enough(block: &[u8; BLOCK], length: usize, fields: Fields) -> bool
 
 // What a claim says: which message, the byte behind its head, the lengths, the answer and where what follows starts.
 fn say_lengths(
+    stdout: Stdout,
     held: bool,
     persist: u8,
     behind: u8,
@@ -73,23 +78,41 @@ fn say_lengths(
     number: u64,
     start: usize,
 ) {
-    begin(held, tell::PERSIST, persist as u64);
-    item(tell::BEHIND, behind as u64);
-    item(tell::LENGTHS, first as u64);
-    item(tell::TO, last as u64);
-    item(tell::READ, number);
-    item(tell::START, start as u64);
-    item(tell::WRITE, number);
+    begin(stdout, held, tell::PERSIST, persist as u64);
+    item(stdout, tell::BEHIND, behind as u64);
+    item(stdout, tell::LENGTHS, first as u64);
+    item(stdout, tell::TO, last as u64);
+    item(stdout, tell::READ, number);
+    item(stdout, tell::START, start as u64);
+    item(stdout, tell::WRITE, number);
 }
 
 // The lengths of a block that starts with a good message.
-pub fn lengths(t: Tally, block: &[u8; BLOCK]) -> Tally {
+pub fn lengths(stdout: Stdout, t: Tally, block: &[u8; BLOCK]) -> Tally {
     let fields = fields_in(block);
     let length = length_due(fields);
-    let short = are_short(block, length, fields);
-    say_lengths(short, fields.persist, block[HEAD], 0, length - 1, 10, 0);
-    let t = finish(t, short);
-    let enough = are_enough(block, length, fields);
-    say_lengths(enough, fields.persist, block[HEAD], length, MOST, 0, length);
-    finish(t, enough)
+    let short = are_short(stdout, block, length, fields);
+    say_lengths(
+        stdout,
+        short,
+        fields.persist,
+        block[HEAD],
+        0,
+        length - 1,
+        10,
+        0,
+    );
+    let t = finish(stdout, t, short);
+    let enough = are_enough(stdout, block, length, fields);
+    say_lengths(
+        stdout,
+        enough,
+        fields.persist,
+        block[HEAD],
+        length,
+        MOST,
+        0,
+        length,
+    );
+    finish(stdout, t, enough)
 }

@@ -18,20 +18,26 @@ ghost use Rattle.std.specs.Prelude.{◌≤◌, length};
 use cases::{BLOCK, HEAD, PERSIST_AT, block_with, head, untouched, with_byte};
 use lines::{is_name, line, next_line};
 use show::claim::Tally;
+use std::fs::File;
+use std::io;
+use std::io::{Read, Stdout};
+
+// The file has fewer bytes than this.
+const SPACE_BYTES: usize = 65536;
 
 // The claims over one good message with its addresses, and over it without persistence: with the bytes of the addresses behind it, and with
 // others.
-fn more(t: Tally, good: &[u8; BLOCK]) -> Tally {
+fn more(stdout: Stdout, t: Tally, good: &[u8; BLOCK]) -> Tally {
     let bare = with_byte(good, PERSIST_AT, 0);
     let alone = block_with(head(&bare, HEAD), 0);
-    let t = damage::damages(t, good);
-    let t = order::order(t, good);
-    let t = lengths::lengths(t, good);
-    let t = lengths::lengths(t, &bare);
-    let t = lengths::lengths(t, &alone);
-    let t = middle::middle(t, good);
-    let t = middle::middle(t, &bare);
-    edges::edges(t, good)
+    let t = damage::damages(stdout, t, good);
+    let t = order::order(stdout, t, good);
+    let t = lengths::lengths(stdout, t, good);
+    let t = lengths::lengths(stdout, t, &bare);
+    let t = lengths::lengths(stdout, t, &alone);
+    let t = middle::middle(stdout, t, good);
+    let t = middle::middle(stdout, t, &bare);
+    edges::edges(stdout, t, good)
 }
 
 // The message of the vector whose name stands at a place.
@@ -44,31 +50,41 @@ fn sample(file: &[u8], at: usize) -> [u8; BLOCK]
 }
 
 // Each vector of the file, and the claims over the last one.
-fn run(file: &[u8]) {
+fn run(stdout: Stdout, file: &[u8]) {
     let mut t = Tally::none();
     let mut at = 0;
     let mut last = 0;
     while at < file.len() {
         if is_name(file, at) {
-            t = vectors::vector(t, file, at);
+            t = vectors::vector(stdout, t, file, at);
             last = at;
         }
         at = next_line(file, at);
     }
     let good = sample(file, last);
-    let t = more(t, &good);
-    t.report(b"message_vectors");
+    let t = more(stdout, t, &good);
+    t.report(stdout, b"message_vectors");
 }
 
-fn main() {
-    let mut space = io::large_buffer();
-    let path = b"hdf5-messages.txt";
-    let fd = os::open_read(path);
-    if fd < 0 {
-        os::fail(path);
-        return;
+// Reads until the space is full, the file is over or a read fails, and answers how many bytes were read.
+fn read_full(mut file: File, space: &mut [u8]) -> usize
+    ensures { result ≤ length space.new }
+{
+    let mut done = 0;
+    while done < space.len() {
+        match file.read(&mut space[done..]) {
+            Ok(0) | Err(_) => {
+                return done;
+            }
+            Ok(n) => done += n,
+        }
     }
-    let n = io::read_full(fd, &mut space);
-    libc::close(fd);
-    run(&space[..n]);
+    done
+}
+
+fn main(rt: HostRuntime) -> io::Result<()> {
+    let mut space = [0u8; SPACE_BYTES];
+    let n = read_full(File::open(&rt, "hdf5-messages.txt")?, &mut space);
+    run(rt.stdout(), &space[..n]);
+    Ok(())
 }

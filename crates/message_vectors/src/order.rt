@@ -5,6 +5,7 @@ use crate::cases::{BLOCK, PERSIST_AT, head, with_byte};
 use crate::tell;
 use crate::tell::{agree, begin, finish, item};
 use show::claim::Tally;
+use std::io::Stdout;
 
 // A case has one place in each of these: version, persist, page size, how many bytes are lent, and the answer.
 const CASES: usize = 12;
@@ -41,26 +42,26 @@ fn with(good: &[u8; BLOCK], i: usize) -> [u8; BLOCK]
 }
 
 // That a case is answered so.
-fn case(t: Tally, good: &[u8; BLOCK], i: usize) -> Tally
+fn case(stdout: Stdout, t: Tally, good: &[u8; BLOCK], i: usize) -> Tally
     requires { i < 12 }
 {
     let block = with(good, i);
     let found = message::read(head(&block, LENT[i]));
     let answer = found.answer;
-    let held = agree(tell::READ, NUMBER[i], message::number_of(answer));
-    begin(held, tell::VERSION, VERSION[i]);
-    item(tell::PERSIST, PERSIST[i]);
-    item(tell::PAGE, PAGE[i]);
-    item(tell::BYTES, LENT[i] as u64);
-    item(tell::READ, NUMBER[i]);
-    finish(t, held)
+    let held = agree(stdout, tell::READ, NUMBER[i], message::number_of(answer));
+    begin(stdout, held, tell::VERSION, VERSION[i]);
+    item(stdout, tell::PERSIST, PERSIST[i]);
+    item(stdout, tell::PAGE, PAGE[i]);
+    item(stdout, tell::BYTES, LENT[i] as u64);
+    item(stdout, tell::READ, NUMBER[i]);
+    finish(stdout, t, held)
 }
 
-pub fn order(t: Tally, good: &[u8; BLOCK]) -> Tally {
+pub fn order(stdout: Stdout, t: Tally, good: &[u8; BLOCK]) -> Tally {
     let mut t = t;
     let mut i = 0;
     while i < CASES {
-        t = case(t, good, i);
+        t = case(stdout, t, good, i);
         i += 1;
     }
     t

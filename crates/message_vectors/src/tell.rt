@@ -2,6 +2,7 @@
 // for each text that is passed.
 use show::claim::{Tally, say_verdict};
 use show::text::{say, say_nth, say_number};
+use std::io::Stdout;
 
 pub const READ: u64 = 0;
 
@@ -55,7 +56,7 @@ pub const LENGTHS: u64 = 24;
 
 pub const START: u64 = 25;
 
-pub fn label(k: u64) {
+pub fn label(stdout: Stdout, k: u64) {
     let labels: &[u8] = b"read \n\
                           bytes that follow \n\
                           write \n\
@@ -82,46 +83,46 @@ pub fn label(k: u64) {
                           the byte behind its head \n\
                           lengths from \n\
                           what follows starts at ";
-    say_nth(labels, k);
+    say_nth(stdout, labels, k);
 }
 
 // A number behind its label.
-pub fn labelled(k: u64, n: u64) {
-    label(k);
-    say_number(n);
+pub fn labelled(stdout: Stdout, k: u64, n: u64) {
+    label(stdout, k);
+    say_number(stdout, n);
 }
 
 // One more number of a line.
-pub fn item(k: u64, n: u64) {
-    say(b", ");
-    labelled(k, n);
+pub fn item(stdout: Stdout, k: u64, n: u64) {
+    say(stdout, b", ");
+    labelled(stdout, k, n);
 }
 
 // Whether a number is this one; what was found is printed where it is not.
-pub fn agree(k: u64, expected: u64, found: u64) -> bool {
+pub fn agree(stdout: Stdout, k: u64, expected: u64, found: u64) -> bool {
     if expected == found {
         return true;
     }
-    labelled(k, expected);
-    say(b" expected, found ");
-    say_number(found);
-    end();
+    labelled(stdout, k, expected);
+    say(stdout, b" expected, found ");
+    say_number(stdout, found);
+    end(stdout);
     false
 }
 
 // The end of a line.
-pub fn end() {
-    say(b"\n");
+pub fn end(stdout: Stdout) {
+    say(stdout, b"\n");
 }
 
 // How a claim begins that a label names.
-pub fn begin(held: bool, k: u64, n: u64) {
-    say_verdict(held);
-    labelled(k, n);
+pub fn begin(stdout: Stdout, held: bool, k: u64, n: u64) {
+    say_verdict(stdout, held);
+    labelled(stdout, k, n);
 }
 
 // The end of a claim, which is counted.
-pub fn finish(t: Tally, held: bool) -> Tally {
-    end();
+pub fn finish(stdout: Stdout, t: Tally, held: bool) -> Tally {
+    end(stdout);
     t.count(held)
 }

@@ -14,6 +14,7 @@ use message::Fields;
 use script::words::{count_words, next_word};
 use show::claim::{Tally, say_verdict};
 use show::text::say;
+use std::io::Stdout;
 
 // The bytes that a line says, laid to the front of a block, and how many they are: none where it says too many, or no bytes.
 pub fn bytes_said(text: &[u8], out: &mut [u8; BLOCK]) -> usize {
@@ -78,37 +79,45 @@ fn behind(n: usize, length: usize) -> usize {
 }
 
 // Whether a message of this length, in front of n bytes, is read and written back.
-fn whole(bytes: &[u8; BLOCK], n: usize, length: usize, fields: Fields) -> bool
+fn whole(stdout: Stdout, bytes: &[u8; BLOCK], n: usize, length: usize, fields: Fields) -> bool
     requires { length ≤ 200 }
 {
     let same = block_with(head(bytes, length), 0);
-    reads(head(bytes, n), 0, fields, behind(n, length)) && writes(fields, BLOCK, 0, &same)
+    reads(stdout, head(bytes, n), 0, fields, behind(n, length))
+        && writes(stdout, fields, BLOCK, 0, &same)
 }
 
 // A vector with its name, its bytes in a block, and the line of its fields.
-fn claim(t: Tally, name: &[u8], bytes: &[u8; BLOCK], n: usize, said: &[u8]) -> Tally {
+fn claim(
+    stdout: Stdout,
+    t: Tally,
+    name: &[u8],
+    bytes: &[u8; BLOCK],
+    n: usize,
+    said: &[u8],
+) -> Tally {
     let length = length_said(said);
-    let held = whole(bytes, n, length, fields_of(numbers(said)));
-    say_vector(held, name, n);
-    say_read(0, behind(n, length));
-    item(tell::WRITE, 0);
-    finish(t, held)
+    let held = whole(stdout, bytes, n, length, fields_of(numbers(said)));
+    say_vector(stdout, held, name, n);
+    say_read(stdout, 0, behind(n, length));
+    item(stdout, tell::WRITE, 0);
+    finish(stdout, t, held)
 }
 
 // How a vector's claim begins.
-fn say_vector(held: bool, name: &[u8], n: usize) {
-    say_verdict(held);
-    say(name);
-    item(tell::BYTES, n as u64);
+fn say_vector(stdout: Stdout, held: bool, name: &[u8], n: usize) {
+    say_verdict(stdout, held);
+    say(stdout, name);
+    item(stdout, tell::BYTES, n as u64);
 }
 
 // The vector whose name stands at a place of the file, with its bytes and its fields in the next two lines.
-pub fn vector(t: Tally, file: &[u8], at: usize) -> Tally
+pub fn vector(stdout: Stdout, t: Tally, file: &[u8], at: usize) -> Tally
     requires { at ≤ length file.now }
 {
     let hex_at = next_line(file, at);
     let fields_at = next_line(file, hex_at);
     let mut bytes = untouched();
     let n = bytes_said(line(file, hex_at), &mut bytes);
-    claim(t, line(file, at), &bytes, n, line(file, fields_at))
+    claim(stdout, t, line(file, at), &bytes, n, line(file, fields_at))
 }

@@ -6,9 +6,10 @@ ghost use Rattle.std.specs.Prelude.{◌≡◌, ◌≤◌, length};
 ghost use Rattle.log_play.specs.Lent.{Lent};
 ghost use Rattle.replay.specs.Reading.{buffer_bytes, Carried, Within};
 
-use libc::{STDIN_FILENO, STDOUT_FILENO};
 use log_check::BLOCK_BYTES;
 use log_judge::{Judge, TABLE_WORDS, Verdict};
+use std::io::{Read, Stderr, Stdin, Stdout};
+use std::process::ExitCode;
 
 const BUFFER_BYTES: usize = 128 * BLOCK_BYTES;
 
@@ -28,6 +29,13 @@ pub enum Got {
     Up(usize),
     End,
     Failure,
+}
+
+// Where the log comes from, and where it is told that it cannot be read.
+#[derive(Clone, Copy)]
+struct Input {
+    stdin: Stdin,
+    stderr: Stderr,
 }
 
 fn at_first() -> Reading
@@ -63,24 +71,24 @@ fn filled_to(
     next
 }
 
-// Reads once, behind what is in the buffer.
-fn read_more(buffer: &mut [u8], filled: usize) -> Got
+// Reads once, behind what is in the buffer. A failure is told on standard error.
+fn read_more(input: Input, buffer: &mut [u8], filled: usize) -> Got
     requires { filled ≤ length buffer.old }
     ensures { Within result filled (length buffer.old) }
 {
-    let room = &mut buffer[filled..];
-    let got = libc::read(STDIN_FILENO, room);
-    if got < 0 {
-        return Got::Failure;
+    let mut stdin = input.stdin;
+    match stdin.read(&mut buffer[filled..]) {
+        Ok(0) => Got::End,
+        Ok(n) => Got::Up(filled + n),
+        Err(error) => {
+            let _ = println!(input.stderr; "replay: standard input: {error}");
+            Got::Failure
+        }
     }
-    if got == 0 {
-        return Got::End;
-    }
-    let n = io::count(got, room);
-    Got::Up(filled + n)
 }
 
 fn turn(
+    input: Input,
     reading: Reading,
     buffer: &mut [u8; BUFFER_BYTES],
     table: &mut [u64; TABLE_WORDS],
@@ -89,7 +97,7 @@ fn turn(
     ensures { Carried result }
 {
     let mut next = reading;
-    match read_more(buffer, reading.filled) {
+    match read_more(input, buffer, reading.filled) {
         Got::Up(filled) => filled_to(reading, filled, buffer, table),
         Got::End => {
             next.is_over = true;
@@ -103,22 +111,22 @@ fn turn(
 }
 
 // A label and a number.
-fn say(label: &[u8], number: u64) {
-    io::write_all(STDOUT_FILENO, label);
-    io::print_decimal(STDOUT_FILENO, number);
+fn say(stdout: Stdout, label: &[u8], number: u64) {
+    let _ = stdout.write_all(label);
+    let _ = stdout.print(number);
 }
 
 // The line of a judgement.
-fn say_verdict(verdict: Verdict) {
+fn say_verdict(stdout: Stdout, verdict: Verdict) {
     match verdict {
         Verdict::Agrees(records, end) => {
-            say(b"agrees ", records);
-            say(b" ", end);
+            say(stdout, b"agrees ", records);
+            say(stdout, b" ", end);
         }
-        Verdict::Differs(record) => say(b"differs ", record),
-        Verdict::Damaged(block) => say(b"damaged ", block),
+        Verdict::Differs(record) => say(stdout, b"differs ", record),
+        Verdict::Damaged(block) => say(stdout, b"damaged ", block),
     }
-    io::write_all(STDOUT_FILENO, b"\n");
+    let _ = stdout.write_all(b"\n");
 }
 
 // What is left in the buffer is judged.
@@ -132,22 +140,31 @@ fn judge_rest(reading: Reading, buffer: &[u8], table: &mut [u64]) -> Verdict
 
 // A proved loop has to end, and nothing says that the input does. So the loop counts its turns down, from a number that no run uses up. Of a log that
 // could not be read to its end nothing is said but that.
-fn turns(buffer: &mut [u8; BUFFER_BYTES], table: &mut [u64; TABLE_WORDS]) {
+fn turns(
+    input: Input,
+    stdout: Stdout,
+    buffer: &mut [u8; BUFFER_BYTES],
+    table: &mut [u64; TABLE_WORDS],
+) -> ExitCode {
     let mut reading = at_first();
     let mut left = u64::MAX;
     while left > 0 && !reading.is_over && !reading.has_failed {
-        reading = turn(reading, buffer, table);
+        reading = turn(input, reading, buffer, table);
         left -= 1;
     }
     if reading.is_over {
-        say_verdict(judge_rest(reading, buffer, table));
-    } else {
-        os::fail(b"replay: standard input");
+        say_verdict(stdout, judge_rest(reading, buffer, table));
+        return ExitCode::SUCCESS;
     }
+    ExitCode::FAILURE
 }
 
-fn main() {
+fn main(rt: HostRuntime) -> ExitCode {
+    let input = Input {
+        stdin: rt.stdin(),
+        stderr: rt.stderr(),
+    };
     let mut buffer = [0u8; BUFFER_BYTES];
     let mut table = [0u64; TABLE_WORDS];
-    turns(&mut buffer, &mut table);
+    turns(input, rt.stdout(), &mut buffer, &mut table)
 }

@@ -11,62 +11,65 @@ ghost use Rattle.std.specs.Prelude.{◌≡◌, ◌+◌, ◌≤◌, length};
 ghost use Rattle.figures.specs.Laid.{number_bytes};
 
 use figures::text::NUMBER_BYTES;
-use libc::STDOUT_FILENO;
+use std::io::Stdout;
 
-pub fn text(text: &[u8]) {
-    io::write_all(STDOUT_FILENO, text);
+// Words are gathered in so many bytes before they are written.
+const BUFFER_BYTES: usize = 4096;
+
+pub fn text(stdout: Stdout, text: &[u8]) {
+    let _ = stdout.write_all(text);
 }
 
-pub fn number(n: u64) {
-    io::print_decimal(STDOUT_FILENO, n);
+pub fn number(stdout: Stdout, n: u64) {
+    let _ = stdout.print(n);
 }
 
 // A number with its sign.
-pub fn signed(n: i64) {
+pub fn signed(stdout: Stdout, n: i64) {
     if n < 0 {
-        text(b"-");
+        text(stdout, b"-");
     }
-    number(figures::signed::distance(n));
+    number(stdout, figures::signed::distance(n));
 }
 
 // A text and a number.
-pub fn labelled(label: &[u8], n: u64) {
-    text(label);
-    number(n);
+pub fn labelled(stdout: Stdout, label: &[u8], n: u64) {
+    text(stdout, label);
+    number(stdout, n);
 }
 
 // The blanks before `used` bytes in a column, up to 20 of them.
-fn blanks(width: usize, used: usize) {
+fn blanks(stdout: Stdout, width: usize, used: usize) {
     let spaces = [b' '; NUMBER_BYTES];
     if used < width {
         if width <= NUMBER_BYTES {
-            text(&spaces[..width - used]);
+            text(stdout, &spaces[..width - used]);
         }
     }
 }
 
 // A number in a column of a width.
-pub fn column(n: u64, width: usize) {
+pub fn column(stdout: Stdout, n: u64, width: usize) {
     let mut digits = [0u8; NUMBER_BYTES];
     let k = io::decimal(n, &mut digits);
-    blanks(width, k);
-    text(&digits[..k]);
+    blanks(stdout, width, k);
+    text(stdout, &digits[..k]);
 }
 
 // A byte in hexadecimal.
-fn two_digits(value: u8) {
+fn two_digits(stdout: Stdout, value: u8) {
     let digits = [
         figures::bytes::digit(value / 16),
         figures::bytes::digit(value % 16),
     ];
-    text(&digits);
+    text(stdout, &digits);
 }
 
 // Bytes in hexadecimal.
-pub fn hex(bytes: &[u8]) {
+pub fn hex(stdout: Stdout, bytes: &[u8]) {
     let mut i = 0;
     while i < bytes.len() {
-        two_digits(bytes[i]);
+        two_digits(stdout, bytes[i]);
         i += 1;
     }
 }
@@ -81,18 +84,18 @@ fn lay_spaced(out: &mut [u8], at: usize, n: u64) -> usize
 }
 
 // The words of a list, each behind a blank. They are gathered, since a table has thousands of them.
-pub fn words(words: &[u64]) {
-    let mut out = io::buffer();
+pub fn words(stdout: Stdout, words: &[u64]) {
+    let mut out = [0u8; BUFFER_BYTES];
     let mut at: usize = 0;
     let mut i: usize = 0;
     // The first `at` bytes are laid, and not written yet.
     while i < words.len() {
         if out.len() - at <= NUMBER_BYTES {
-            text(&out[..at]);
+            text(stdout, &out[..at]);
             at = 0;
         }
         at = lay_spaced(&mut out, at, words[i]);
         i += 1;
     }
-    text(&out[..at]);
+    text(stdout, &out[..at]);
 }

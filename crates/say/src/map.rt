@@ -5,6 +5,7 @@ ghost use Rattle.say.specs.Rows.{Rows};
 
 use crate::{column, labelled, text};
 use space::Space;
+use std::io::Stdout;
 
 // A row has at most so many marks, and a picture so many rows.
 const MARKS: u64 = 64;
@@ -49,74 +50,83 @@ fn mark_at(table: &[u64], n: usize, address: u64) -> u8
 }
 
 // The marks of a page, one for every `step` bytes.
-fn say_marks(table: &[u64], n: usize, start: u64, stop: u64, step: u64)
+fn say_marks(stdout: Stdout, table: &[u64], n: usize, start: u64, stop: u64, step: u64)
     requires { (n * entry_words ≤ length table.now) × ((0 < step) × (stop + step < 2 ^ 64)) }
 {
     let mut address = start;
     while address < stop {
         let mark = [mark_at(table, n, address); 1];
-        text(&mark);
+        text(stdout, &mark);
         address += step;
     }
 }
 
-fn say_row(table: &[u64], n: usize, row: u64, start: u64, page: u64)
+fn say_row(stdout: Stdout, table: &[u64], n: usize, row: u64, start: u64, page: u64)
     requires { (n * entry_words ≤ length table.now) × Rows page start }
 {
-    text(b"page ");
-    column(row, COLUMN);
-    text(b" |");
-    say_marks(table, n, start, start + page, (page + MARKS - 1) / MARKS);
-    text(b"|\n");
+    text(stdout, b"page ");
+    column(stdout, row, COLUMN);
+    text(stdout, b" |");
+    say_marks(
+        stdout,
+        table,
+        n,
+        start,
+        start + page,
+        (page + MARKS - 1) / MARKS,
+    );
+    text(stdout, b"|\n");
 }
 
 // The rows, and how many pages have none.
-fn say_rows(table: &[u64], n: usize, page: u64, end: u64)
+fn say_rows(stdout: Stdout, table: &[u64], n: usize, page: u64, end: u64)
     requires { (n * entry_words ≤ length table.now) × Rows page end }
 {
     let mut start: u64 = 0;
     let mut row: u64 = 0;
     while row < ROWS && start < end {
-        say_row(table, n, row, start, page);
+        say_row(stdout, table, n, row, start, page);
         start += page;
         row += 1;
     }
-    say_more(page, start, end);
+    say_more(stdout, page, start, end);
 }
 
-fn say_more(page: u64, start: u64, end: u64)
+fn say_more(stdout: Stdout, page: u64, start: u64, end: u64)
     requires { 0 < page }
 {
     if start < end {
-        labelled(b"and ", (end - start) / page);
-        text(b" more pages\n");
+        labelled(stdout, b"and ", (end - start) / page);
+        text(stdout, b" more pages\n");
     }
 }
 
-fn say_legend(page: u64, end: u64)
+fn say_legend(stdout: Stdout, page: u64, end: u64)
     requires { Rows page end }
 {
-    labelled(b"pages of ", page);
-    labelled(b" bytes, end ", end);
-    labelled(b"; a mark for every ", (page + MARKS - 1) / MARKS);
+    labelled(stdout, b"pages of ", page);
+    labelled(stdout, b" bytes, end ", end);
+    labelled(stdout, b"; a mark for every ", (page + MARKS - 1) / MARKS);
     text(
+        stdout,
         b" bytes\nlive: M small metadata, R small raw, L large; free: m small metadata, r small raw, . large\n",
     );
 }
 
 // The first `used` words are the table of a space.
-pub fn map(space: Space, used: usize, table: &[u64])
+pub fn map(stdout: Stdout, space: Space, used: usize, table: &[u64])
     requires { used ≤ length table.now }
 {
     if !space.is_sound(&table[..used]) {
-        text(b"no map: state and table are not sound together\n");
+        text(stdout, b"no map: state and table are not sound together\n");
         return;
     }
     say_rows(
+        stdout,
         table,
         pieces::entries_within(space.count, used),
         space.page,
         space.end,
     );
-    say_legend(space.page, space.end);
+    say_legend(stdout, space.page, space.end);
 }

@@ -3,6 +3,7 @@
 ghost use Rattle.std.specs.Prelude.{◌<◌};
 
 use crate::{column, labelled, signed, tables, text, words};
+use std::io::Stdout;
 use totals::{DECADES, Summary};
 
 // The columns of a number of sections, and of a number of bytes.
@@ -15,29 +16,32 @@ const MARKS: u64 = 40;
 
 const MARK: u8 = b'#';
 
-fn say_manager(place: usize, sections: u64, bytes: u64, largest: u64)
+fn say_manager(stdout: Stdout, place: usize, sections: u64, bytes: u64, largest: u64)
     requires { place < 3 }
 {
     let names = b"  small metadata     \
                 \x20 small raw          \
                 \x20 large              ";
-    tables::say_name(names, place);
-    column(sections, NUMBER);
-    text(b" ");
-    column(bytes, BYTES);
-    text(b" ");
-    column(largest, BYTES);
-    text(b"\n");
+    tables::say_name(stdout, names, place);
+    column(stdout, sections, NUMBER);
+    text(stdout, b" ");
+    column(stdout, bytes, BYTES);
+    text(stdout, b" ");
+    column(stdout, largest, BYTES);
+    text(stdout, b"\n");
 }
 
-fn say_managers(summary: Summary) {
+fn say_managers(stdout: Stdout, summary: Summary) {
     let sections = summary.sections;
     let bytes = summary.bytes;
     let largest = summary.largest;
-    text(b"Free sections              number                bytes              largest\n");
-    say_manager(0, sections[0], bytes[0], largest[0]);
-    say_manager(1, sections[1], bytes[1], largest[1]);
-    say_manager(2, sections[2], bytes[2], largest[2]);
+    text(
+        stdout,
+        b"Free sections              number                bytes              largest\n",
+    );
+    say_manager(stdout, 0, sections[0], bytes[0], largest[0]);
+    say_manager(stdout, 1, sections[1], bytes[1], largest[1]);
+    say_manager(stdout, 2, sections[2], bytes[2], largest[2]);
 }
 
 // The largest of the counts.
@@ -63,17 +67,24 @@ fn scale_of(most: u64) -> u64
     (most - 1) / MARKS + 1
 }
 
-fn say_scale(scale: u64) {
+fn say_scale(stdout: Stdout, scale: u64) {
     if scale == 1 {
-        text(b"Free sections by size in bytes; # is one section\n");
+        text(
+            stdout,
+            b"Free sections by size in bytes; # is one section\n",
+        );
         return;
     }
-    labelled(b"Free sections by size in bytes; # is up to ", scale);
-    text(b" sections\n");
+    labelled(
+        stdout,
+        b"Free sections by size in bytes; # is up to ",
+        scale,
+    );
+    text(stdout, b" sections\n");
 }
 
 // As many marks as hold the count: one for each `scale`, and one for what is over.
-fn say_bar(count: u64, scale: u64)
+fn say_bar(stdout: Stdout, count: u64, scale: u64)
     requires { 0 < scale }
 {
     let marks = [MARK; MARKS as usize];
@@ -83,12 +94,12 @@ fn say_bar(count: u64, scale: u64)
     let wanted = (count - 1) / scale + 1;
     if wanted <= MARKS {
         let n = wanted as usize;
-        text(b"  ");
-        text(&marks[..n]);
+        text(stdout, b"  ");
+        text(stdout, &marks[..n]);
     }
 }
 
-fn say_decade(place: usize, count: u64, scale: u64)
+fn say_decade(stdout: Stdout, place: usize, count: u64, scale: u64)
     requires { (place < 19) × (0 < scale) }
 {
     let names = b"  under 10           \
@@ -110,35 +121,35 @@ fn say_decade(place: usize, count: u64, scale: u64)
                 \x20 10^16 to 10^17 - 1 \
                 \x20 10^17 to 10^18 - 1 \
                 \x20 10^18 upward       ";
-    tables::say_name(names, place);
-    column(count, NUMBER);
-    say_bar(count, scale);
-    text(b"\n");
+    tables::say_name(stdout, names, place);
+    column(stdout, count, NUMBER);
+    say_bar(stdout, count, scale);
+    text(stdout, b"\n");
 }
 
-fn say_decades(counts: &[u64; DECADES], scale: u64)
+fn say_decades(stdout: Stdout, counts: &[u64; DECADES], scale: u64)
     requires { 0 < scale }
 {
     let mut i = 0;
     while i < DECADES {
-        say_decade(i, counts[i], scale);
+        say_decade(stdout, i, counts[i], scale);
         i += 1;
     }
 }
 
-pub fn sheet(summary: Summary) {
+pub fn sheet(stdout: Stdout, summary: Summary) {
     let decades = summary.decades;
     let scale = scale_of(most_of(&decades));
-    say_managers(summary);
-    say_scale(scale);
-    say_decades(&decades, scale);
-    text(b"The last accepted call moved the end of file by ");
-    signed(summary.moved);
-    text(b" bytes.\n");
+    say_managers(stdout, summary);
+    say_scale(stdout, scale);
+    say_decades(stdout, &decades, scale);
+    text(stdout, b"The last accepted call moved the end of file by ");
+    signed(stdout, summary.moved);
+    text(stdout, b" bytes.\n");
 }
 
 // Every number: number, bytes and largest of each manager, the counts, and the signed number.
-pub fn numbers(summary: Summary) {
+pub fn numbers(stdout: Stdout, summary: Summary) {
     let sections = summary.sections;
     let bytes = summary.bytes;
     let largest = summary.largest;
@@ -154,10 +165,10 @@ pub fn numbers(summary: Summary) {
         bytes[2],
         largest[2],
     ];
-    text(b"summary:");
-    words(&managers);
-    words(&decades);
-    text(b" ");
-    signed(summary.moved);
-    text(b"\n");
+    text(stdout, b"summary:");
+    words(stdout, &managers);
+    words(stdout, &decades);
+    text(stdout, b" ");
+    signed(stdout, summary.moved);
+    text(stdout, b"\n");
 }

@@ -4,6 +4,7 @@ ghost use Rattle.show.specs.Answers.{of_number, sameb};
 
 use crate::text::{say, say_number};
 use space::answers::DONE;
+use std::io::Stdout;
 
 #[derive(Clone, Copy)]
 pub enum Answer {
@@ -79,28 +80,28 @@ pub fn same_answer(a: Answer, other: Answer) -> bool
     }
 }
 
-pub fn say_answer(a: Answer) {
+pub fn say_answer(stdout: Stdout, a: Answer) {
     match a {
         Answer::At(n) => {
-            say(b"at ");
-            say_number(n);
+            say(stdout, b"at ");
+            say_number(stdout, n);
         }
         Answer::Sections(n) => {
-            say_number(n);
-            say(b" sections");
+            say_number(stdout, n);
+            say(stdout, b" sections");
         }
-        Answer::Done => say(b"done"),
+        Answer::Done => say(stdout, b"done"),
         Answer::Refused(n) => {
-            say(b"refused ");
-            say_number(n);
+            say(stdout, b"refused ");
+            say_number(stdout, n);
         }
     }
 }
 
 // What was expected, what was found, and the line's end.
-pub fn say_answers(expected: Answer, found: Answer) {
-    say_answer(expected);
-    say(b", found ");
-    say_answer(found);
-    say(b"\n");
+pub fn say_answers(stdout: Stdout, expected: Answer, found: Answer) {
+    say_answer(stdout, expected);
+    say(stdout, b", found ");
+    say_answer(stdout, found);
+    say(stdout, b"\n");
 }

@@ -7,6 +7,7 @@ ghost use Rattle.show.specs.Claims.{one_more, no_claims, counted, Tells};
 use crate::answer::Answer;
 use crate::text::{say, say_nth, say_number};
 use crate::{answer, words};
+use std::io::Stdout;
 
 #[derive(Clone, Copy)]
 pub struct Tally {
@@ -27,30 +28,30 @@ pub fn one_more(n: u64) -> u64
 }
 
 // How the line of a claim begins.
-pub fn say_verdict(held: bool) {
+pub fn say_verdict(stdout: Stdout, held: bool) {
     if held {
-        say(b"ok   ");
+        say(stdout, b"ok   ");
         return;
     }
-    say(b"FAIL ");
+    say(stdout, b"FAIL ");
 }
 
 // Claim k of a text: the whole line where it holds, else up to what was expected.
-pub fn say_claim(held: bool, text: &[u8], k: u64) {
-    say_verdict(held);
-    say_nth(text, k);
+pub fn say_claim(stdout: Stdout, held: bool, text: &[u8], k: u64) {
+    say_verdict(stdout, held);
+    say_nth(stdout, text, k);
     if held {
-        say(b"\n");
+        say(stdout, b"\n");
         return;
     }
-    say(b": expected ");
+    say(stdout, b": expected ");
 }
 
-fn say_numbers(expected: u64, found: u64) {
-    say_number(expected);
-    say(b", found ");
-    say_number(found);
-    say(b"\n");
+fn say_numbers(stdout: Stdout, expected: u64, found: u64) {
+    say_number(stdout, expected);
+    say(stdout, b", found ");
+    say_number(stdout, found);
+    say(stdout, b"\n");
 }
 
 impl Tally {
@@ -91,48 +92,62 @@ impl Tally {
     }
 
     // That a number is this one.
-    pub fn number(self, text: &[u8], k: u64, expected: u64, found: u64) -> Tally
+    pub fn number(self, stdout: Stdout, text: &[u8], k: u64, expected: u64, found: u64) -> Tally
         ensures { result ≡ counted self (eqb expected found) }
     {
         let held = expected == found;
-        say_claim(held, text, k);
+        say_claim(stdout, held, text, k);
         if !held {
-            say_numbers(expected, found);
+            say_numbers(stdout, expected, found);
         }
         self.count(held)
     }
 
     // That an answer is this one.
-    pub fn answer(self, text: &[u8], k: u64, expected: Answer, found: Answer) -> Tally
+    pub fn answer(
+        self,
+        stdout: Stdout,
+        text: &[u8],
+        k: u64,
+        expected: Answer,
+        found: Answer,
+    ) -> Tally
         ensures { result ≡ counted self (sameb expected found) }
     {
         let held = answer::same_answer(expected, found);
-        say_claim(held, text, k);
+        say_claim(stdout, held, text, k);
         if !held {
-            answer::say_answers(expected, found);
+            answer::say_answers(stdout, expected, found);
         }
         self.count(held)
     }
 
     // That the words are these.
-    pub fn words(self, text: &[u8], k: u64, expected: &[u64], found: &[u64]) -> Tally
+    pub fn words(
+        self,
+        stdout: Stdout,
+        text: &[u8],
+        k: u64,
+        expected: &[u64],
+        found: &[u64],
+    ) -> Tally
         ensures { (h : Bool) → Tells h (expected.now ≡ found.now) → result ≡ counted self h }
     {
         let held = words::same_words(expected, found);
-        say_claim(held, text, k);
+        say_claim(stdout, held, text, k);
         if !held {
-            words::say_difference(expected, found);
+            words::say_difference(stdout, expected, found);
         }
         self.count(held)
     }
 
     // The last line of a program.
-    pub fn report(self, program: &[u8]) {
-        say(program);
-        say(b": ");
-        say_number(self.claims);
-        say(b" claims, ");
-        say_number(self.failures);
-        say(b" failures\n");
+    pub fn report(self, stdout: Stdout, program: &[u8]) {
+        say(stdout, program);
+        say(stdout, b": ");
+        say_number(stdout, self.claims);
+        say(stdout, b" claims, ");
+        say_number(stdout, self.failures);
+        say(stdout, b" failures\n");
     }
 }

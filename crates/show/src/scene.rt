@@ -11,6 +11,7 @@ use call::Call;
 use pieces::{ENTRY_WORDS, Piece};
 use space::Space;
 use space::answers::open_number;
+use std::io::Stdout;
 
 pub const ENTRIES: usize = 32;
 
@@ -192,24 +193,24 @@ pub fn same_scene(a: Scene, other: Scene) -> bool
 }
 
 // The table, an entry to a line.
-pub fn say_entries(scene: Scene) {
+pub fn say_entries(stdout: Stdout, scene: Scene) {
     let words = scene.words;
     let state = scene.space;
-    entry::say_table(&words, state.count);
+    entry::say_table(stdout, &words, state.count);
 }
 
 // Release, extend or shorten, and the piece.
-fn say_piece(verb: u64, address: u64, size: u64) {
-    say_nth(b"release \nextend \nshorten ", verb);
-    say_number(address);
-    say(b" size ");
-    say_number(size);
+fn say_piece(stdout: Stdout, verb: u64, address: u64, size: u64) {
+    say_nth(stdout, b"release \nextend \nshorten ", verb);
+    say_number(stdout, address);
+    say(stdout, b" size ");
+    say_number(stdout, size);
 }
 
-fn say_change(verb: u64, address: u64, size: u64, by: u64) {
-    say_piece(verb, address, size);
-    say(b" by ");
-    say_number(by);
+fn say_change(stdout: Stdout, verb: u64, address: u64, size: u64, by: u64) {
+    say_piece(stdout, verb, address, size);
+    say(stdout, b" by ");
+    say_number(stdout, by);
 }
 
 // The line of a type, or of an unknown one.
@@ -220,16 +221,16 @@ fn named(code: u64) -> u64 {
     0
 }
 
-fn say_request(code: u64, size: u64) {
-    say_nth(b"unknown type \nmetadata \nraw ", named(code));
-    say_number(size);
+fn say_request(stdout: Stdout, code: u64, size: u64) {
+    say_nth(stdout, b"unknown type \nmetadata \nraw ", named(code));
+    say_number(stdout, size);
 }
 
-pub fn say_call(call: Call) {
+pub fn say_call(stdout: Stdout, call: Call) {
     match call {
-        Call::Allocate(code, size) => say_request(code, size),
-        Call::Release(address, size) => say_piece(0, address, size),
-        Call::Extend(address, size, by) => say_change(1, address, size, by),
-        Call::Shorten(address, size, by) => say_change(2, address, size, by),
+        Call::Allocate(code, size) => say_request(stdout, code, size),
+        Call::Release(address, size) => say_piece(stdout, 0, address, size),
+        Call::Extend(address, size, by) => say_change(stdout, 1, address, size, by),
+        Call::Shorten(address, size, by) => say_change(stdout, 2, address, size, by),
     }
 }

@@ -4,6 +4,7 @@ ghost use Rattle.show.specs.Claims.{Tells};
 ghost use Rattle.show.specs.Words.{agreed};
 
 use crate::text::{say, say_number};
+use std::io::Stdout;
 
 // The index of the first word that differs; the length of the shorter one, where there is none.
 pub fn agreeing(a: &[u64], b: &[u64]) -> usize
@@ -37,17 +38,17 @@ pub fn same_words(a: &[u64], b: &[u64]) -> bool
 }
 
 // The first word that differs.
-pub fn say_difference(a: &[u64], b: &[u64]) {
-    say(b"the first word that differs is word ");
-    say_number(agreeing(a, b) as u64);
-    say(b"\n");
+pub fn say_difference(stdout: Stdout, a: &[u64], b: &[u64]) {
+    say(stdout, b"the first word that differs is word ");
+    say_number(stdout, agreeing(a, b) as u64);
+    say(stdout, b"\n");
 }
 
 // That every word agrees, or the first one that differs.
-pub fn say_agreement(a: &[u64], b: &[u64]) {
+pub fn say_agreement(stdout: Stdout, a: &[u64], b: &[u64]) {
     if same_words(a, b) {
-        say(b"every word agrees\n");
+        say(stdout, b"every word agrees\n");
         return;
     }
-    say_difference(a, b);
+    say_difference(stdout, a, b);
 }
