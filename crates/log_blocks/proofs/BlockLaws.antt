@@ -6,8 +6,6 @@
 --   Kept i b                         the block b keeps all rules but the check; block-checked, it is good by its check
 --   good_kept                        a good block keeps all rules
 --   block_full, block_number, block_some, block_most   what a good block has: its bytes, a number of four bytes, 1 to 12 records
---
--- Assumes nothing.
 use Prim.Native.Nat.{ℕ, ◌+◌, ◌^◌, ◌≤◌, ◌<◌}
 use mathlib.Core.Bool.{Bool, true, false, ◌&&◌}
 use mathlib.Core.List.{List}

@@ -6,8 +6,6 @@
 --   records_left n i b  of the n records in the block b those from the record i on
 --   records_start, records_next, records_end   all of them, one and the rest, none
 --   records_none, broken, kept   no record, a first one that breaks the rules, or keeps them
---
--- Assumes nothing.
 use Prim.Native.Nat.{ℕ, zero, suc, ◌+◌, ◌-◌, ◌*◌, ◌≤◌, ◌<◌}
 use mathlib.Core.Bool.{Bool, true, false}
 use mathlib.Core.List.{List, [], ◌∷◌}
