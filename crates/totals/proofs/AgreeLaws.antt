@@ -1,6 +1,5 @@
 -- Laws of agreement: a summary agrees with entries exactly where it is theirs, but for the signed number (summary-agrees, agrees-summary).
 --
--- Assumes nothing.
 use mathlib.Core.Bool.{Bool, true, ◌&&◌}
 use mathlib.Core.List.{List}
 use mathlib.Core.Path.{◌≡◌, ap}

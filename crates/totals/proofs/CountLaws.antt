@@ -6,7 +6,7 @@
 -- In this order: where the count starts; the whole; what fits; one entry more, a free section or a live piece. Then which entries can be counted:
 -- those of a sound table, and a part of such (countable-sound, countable-part).
 --
--- Not here: laws of the four lists (TallyLaws). Assumes nothing.
+-- Not here: laws of the four lists (TallyLaws).
 use Prim.Native.Nat.{ℕ, ◌+◌, ◌-◌, ◌^◌, ◌≤◌, ◌<◌, max}
 use mathlib.Core.Bool.{true, false}
 use mathlib.Core.List.{List, [], ◌∷◌, ◌++◌}

@@ -2,12 +2,14 @@
 --
 --   Climbing z d e      a size of z bytes reaches the d edges below e, and the walk goes on from there
 --   climbing_from, climbing_next, climbing_below, climbing_last     it starts, passes an edge, stops below one, and stops behind the last
+--   past_ten, past_hundred, past_thousand                           past the first edges, one by one
+--   decade_first, decade_second, decade_third                       the decade of a size below one of them
 --   decade_few          a decade is one of those that are counted
 --
--- Not here: that a decade holds the sizes between its edges (Described.antt). Assumes nothing.
+-- Not here: that a decade holds the sizes between its edges (Described.antt).
 use Prim.Native.Nat.{ℕ, zero, suc, ◌+◌, ◌-◌, ◌*◌, ◌^◌, ◌≤◌, ◌<◌}
 use mathlib.Core.Bool.{Bool, true, false, cond}
-use mathlib.Core.Path.{◌≡◌, refl, ap}
+use mathlib.Core.Path.{◌≡◌, refl, sym, ap}
 use native.Mathlib.Nat.{pow-suc, pow-le-pow_right}
 use native.Mathlib.Numerals.{add-one}
 use native.Mathlib.Omega.{arith}
@@ -70,3 +72,23 @@ module _ (z d e : ℕ) (c : Climbing z d e) where
         edge = rw (add-one d, pow-suc ten (suc d)) (ap (λ (k : ℕ). k * ten) c.edge);
         rest = omega (arith, c.rest, more);
       }
+
+-- ---- the first edges
+
+past_ten : (z : ℕ) → 10 ≤ z → Climbing z 1 100
+past_ten z h = climbing_next z 0 10 (climbing_from z) (omega arith) h
+
+past_hundred : (z : ℕ) → 100 ≤ z → Climbing z 2 1000
+past_hundred z h = climbing_next z 1 100 (past_ten z (omega arith)) (omega arith) h
+
+pub past_thousand : (z : ℕ) → 1000 ≤ z → Climbing z 3 10000
+past_thousand z h = climbing_next z 2 1000 (past_hundred z (omega arith)) (omega arith) h
+
+pub decade_first : (z : ℕ) → z < 10 → decade_of z ≡ 0
+decade_first z h = sym (climbing_below z 0 10 (climbing_from z) h)
+
+pub decade_second : (z : ℕ) → 10 ≤ z → z < 100 → decade_of z ≡ 1
+decade_second z h l = sym (climbing_below z 1 100 (past_ten z h) l)
+
+pub decade_third : (z : ℕ) → 100 ≤ z → z < 1000 → decade_of z ≡ 2
+decade_third z h l = sym (climbing_below z 2 1000 (past_hundred z h) l)

@@ -3,7 +3,6 @@
 -- In this order: a decade and its sizes (decade-in, in-decade); what is counted of the entries that pass a test (how-many, bytes-are, largest-is), and
 -- that it is one number (-unique); the statements.
 --
--- Assumes nothing.
 use Prim.Native.Nat.{ℕ, zero, suc, ◌+◌, ◌*◌, ◌^◌, ◌≤◌, ◌<◌, max}
 use mathlib.Core.Bool.{Bool, true, false, cond}
 use mathlib.Core.List.{List, [], ◌∷◌, Memᴰ}

@@ -1,7 +1,6 @@
 -- Laws of the signed number: by how much the end of file moved, upward (moved_up) and downward (moved_down); and as the machine works it out and
 -- hands it on.
 --
--- Assumes nothing.
 use Prim.Native.Nat.{ℕ, suc, ◌-◌, ◌^◌, ◌≤◌, ◌<◌}
 use mathlib.Core.Bool.{Bool, cond}
 use mathlib.Core.Path.{◌≡◌, sym, ap, ◌∙◌}

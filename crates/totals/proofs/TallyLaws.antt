@@ -11,7 +11,7 @@
 -- In this order: lists of n numbers in a row (each, row); a manager's number and its sections (per-at, sections-keyed); entries in two parts
 -- (append); one entry more (section, other); bounds of sums (few); bytes and largest by themselves; the summary of no entries (no-entries).
 --
--- Not here: laws of lists (lib.ListN, lib.Seq). Assumes nothing.
+-- Not here: laws of lists (lib.ListN, lib.Seq).
 use Prim.Native.Nat.{ℕ, zero, suc, ◌+◌, ◌≤◌, ◌<◌, max}
 use mathlib.Core.Bool.{Bool, true, false, cond, ◌&&◌}
 use mathlib.Core.List.{List, [], ◌∷◌, ◌++◌}

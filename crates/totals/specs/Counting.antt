@@ -3,7 +3,7 @@
 --   Countable w from to    the entries from..to of the words w can be counted: they are there, their kinds are kinds, and no number
 --                          of their summary passes 64 bits
 --
--- Assumes nothing. Every part of a sound table is so (proofs/CountLaws.antt).
+-- Every part of a sound table is so (proofs/CountLaws.antt).
 use Rattle.std.specs.Prelude.{List, ℕ, ◌-◌, ◌*◌, ◌^◌, ◌≤◌, ◌<◌, length}
 use Rattle.pieces.specs.Pieces.{Kind}
 use Rattle.pieces.specs.Words.{entry_words, kind_at, entries}

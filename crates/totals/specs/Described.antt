@@ -11,7 +11,7 @@
 --   OneSummary             and there is no other
 --   AgreementRight         `agreesb` tells those that are such, whatever the signed number
 --
--- Assumes nothing. The statements are proved in proofs/Described.antt.
+-- The statements are proved in proofs/Described.antt.
 use Rattle.std.specs.Prelude.{true, ◌≡◌, ℕ, suc, ◌+◌, ◌^◌, ◌≤◌, ◌<◌, ℤ, length, get_or}
 use mathlib.Core.List.{List, [], ◌∷◌, Memᴰ}
 use Rattle.pieces.specs.Pieces.{IsFree, manager_of}

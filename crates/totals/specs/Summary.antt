@@ -20,7 +20,7 @@
 --   agreesb s es               the test whether the summary s is that of es, but for the signed number
 --   moved_by old new           by how much the end of file moved, from old to new
 --
--- Assumes nothing. What each number is, said without computing it, is in Described.antt. Laws are in proofs/TallyLaws.antt.
+-- What each number is, said without computing it, is in Described.antt. Laws are in proofs/TallyLaws.antt.
 use Rattle.std.specs.Prelude.{Bool, cond, ◌&&◌, List, [], ◌∷◌, ℕ, zero, suc, ◌+◌, ◌*◌, max, ltb, eqb, ℤ, pos, length, replicate}
 use Rattle.std.proofs.Math.IntN.{sub_ℕ}
 use Rattle.pages.specs.Same.{sameb}

@@ -40,6 +40,7 @@ pub struct Summary {
 }
 
 // Which decade counts a section of so many bytes. Most sections are less than a page, so the first edges are tested one by one.
+#[tactic(auto, using(crate::proofs::DecadeLaws::decade_first, crate::proofs::DecadeLaws::decade_second, crate::proofs::DecadeLaws::decade_third))]
 pub fn decade_of(size: u64) -> usize
     ensures { result ≡ decade_of size }
 {
