@@ -70,6 +70,7 @@ fn are_records(first: bool, block: &[u8], count: usize) -> bool
 }
 
 // Whether the bytes are a block with this number, whatever follows it.
+#[tactic(auto, using(crate::proofs::BlockLaws::other_number))]
 pub fn is_block(number: u64, block: &[u8]) -> bool
     ensures { result ≡ blockb number block.now }
 {

@@ -63,6 +63,7 @@ pub fn record_in(bytes: &[u8]) -> Record
 }
 
 // Whether a record may have this operation, as the first of the log or as a later one.
+#[tactic(auto, unfolding(crate::specs::Records::operationb))]
 fn is_operation(first: bool, operation: u64) -> bool
     ensures { result ≡ operationb first operation }
 {

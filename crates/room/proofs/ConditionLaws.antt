@@ -4,8 +4,6 @@
 --   the_next                 the entry that starts where a part of a table goes on is the first of that part
 --   room_test, test_room     the room behind a piece: the test says the condition, and the condition the test
 --   left_test, test_left     what remains of a piece, likewise
---
--- Assumes nothing.
 use Prim.Native.Nat.{ℕ, ◌+◌, ◌≤◌, ◌<◌}
 use mathlib.Core.Bool.{true, not, ◌&&◌}
 use mathlib.Core.List.{List, [], ◌∷◌, Memᴰ}

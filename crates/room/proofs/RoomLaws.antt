@@ -1,8 +1,6 @@
 -- Laws of the room behind a piece, of the limit, and of what remains of a piece, test by test as the code makes them.
 --
 -- In this order: a small piece's room; a large piece's; the entries behind; what remains; the limit.
---
--- Assumes nothing.
 use Prim.Native.Nat.{ℕ, suc, ◌+◌, ◌-◌, ◌≤◌, ◌<◌}
 use mathlib.Core.Bool.{true, false, not, ◌&&◌}
 use mathlib.Core.List.{List, [], ◌∷◌}

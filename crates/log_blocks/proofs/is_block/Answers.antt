@@ -1,15 +1,12 @@
 -- `log_blocks::is_block` meets its contract: the first rule that is broken decides, and then the check.
 use mathlib.Core.Path.{◌∙◌, sym}
 use Rattle.pages.proofs.Numbers.{passes, fails}
-use Rattle.log_blocks.proofs.BlockLaws.{short_block, other_number, no_records, many_records, head_not, records_not, behind_not}
+use Rattle.log_blocks.proofs.BlockLaws.{short_block, no_records, many_records, head_not, records_not, behind_not}
 use Rattle.log_blocks.proofs.BlockLaws.{Kept, block_checked}
 use Rattle.log_blocks.proofs.is_block.Goals as goal
 
 pub returns-then-block-ne-BLOCK_BYTES : goal.returns-then-block-ne-BLOCK_BYTES
 returns-then-block-ne-BLOCK_BYTES c = short_block c.args.number c.args.block.now c.if-block-ne-BLOCK_BYTES.true
-
-pub returns-then-told-number : goal.returns-then-told-number
-returns-then-told-number c = other_number c.args.number c.args.block.now c.get_part-told.ensures c.if-told-number.true
 
 pub returns-then-count-lt1 : goal.returns-then-count-lt1
 returns-then-count-lt1 c = no_records c.args.number c.args.block.now c.count-count.ensures c.if-count-lt1.true
@@ -41,7 +38,7 @@ returns c =
     let kept : Kept a.number a.block.now
     = record {
       full = c.if-block-ne-BLOCK_BYTES.false;
-      number = sym c.get_part-told.ensures ∙ c.if-told-number.false;
+      number = cc;
       some = rw (← count) c.if-count-lt1.false;
       most = rw (← count) c.if-count-gt-MOST_RECORDS.false;
       head = sym c.get_part.ensures ∙ c.if-get_part-ne0.false;
