@@ -1,12 +1,12 @@
 -- The laws of an area in bytes.
 --
---   area_lengths                  the test of a length is the rule; area-fits, area-most, what it says of the lengths of the parts
+--   area_lengths                  the test of a length is the rule; area_fits, area_most, what it says of the lengths of the parts
 --   length_head, length_area      how many bytes there are
 --   head_laid, area_laid          a head that is written word by word, and the table behind it
 --   head_over, entries_over       a head, and a part of the table, laid over an area
 --   area_read, area_written       what is read out of an area is that area, and the other way round
 --
--- Not here: laws of numbers in bytes (little/proofs/LittleLaws.antt). Assumes nothing.
+-- Not here: laws of numbers in bytes (little/proofs/LittleLaws.antt).
 use Prim.Native.Nat.{ℕ, ◌+◌, ◌-◌, ◌*◌, ◌/◌, ◌%◌, ◌≤◌}
 use mathlib.Core.Bool.{true}
 use mathlib.Core.List.{List, [], ◌++◌, append-nil, append_assoc}

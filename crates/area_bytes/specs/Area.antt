@@ -19,8 +19,6 @@
 --   AreaLengths           the test is the rule
 --   AreaRead              what is read out of an area, written again, is that area
 --   AreaWritten           what is written into an area is read out of it
---
--- Assumes nothing.
 use Rattle.std.specs.Prelude.{Bool, true, ◌&&◌, List, [], ◌∷◌, ◌++◌, ◌≡◌, ℕ, ◌+◌, ◌-◌, ◌*◌, ◌/◌, ◌%◌, ◌≤◌, leb, eqb, length, drop}
 use Rattle.little.specs.Little.{word_bytes, value_at, numbers, bytes_of_all, Bytes, Below}
 use Rattle.pieces.specs.Words.{entry_words}
