@@ -2,7 +2,7 @@
 --
 --   sections_differ, bytes_differ, largest_differ, decades_decide        a summary compared with a fresh one
 --
--- Not here: two lists compared, number after number (pages/proofs/SameLaws.antt); what the tests say (totals' AgreeLaws). Assumes nothing.
+-- Not here: two lists compared, number after number (pages/proofs/SameLaws.antt); what the tests say (totals' AgreeLaws).
 use Prim.Native.Nat.{ℕ, ◌-◌}
 use mathlib.Core.Bool.{true, false, ◌&&◌}
 use mathlib.Core.List.{List}

@@ -4,7 +4,7 @@
 --
 -- In this order: the loop over one list; one list of the summary, whose numbers are sums (exchange); the largest section (beside); the whole.
 --
--- Not here: laws of the four lists (totals' TallyLaws). Assumes nothing.
+-- Not here: laws of the four lists (totals' TallyLaws).
 use Prim.Native.Nat.{ℕ, ◌+◌, ◌-◌, ◌^◌, ◌≤◌, ◌<◌, max}
 use mathlib.Core.List.{List, ◌++◌}
 use mathlib.Core.Path.{◌≡◌, refl, sym, ap, ◌∙◌}

@@ -7,7 +7,6 @@
 --   Replaces given was is w n    the words w hold n entries that came of entries which `given` agrees with, where those that `was` is the
 --                                summary of gave way to those that `is` is the summary of
 --
--- Assumes nothing.
 use Rattle.std.specs.Prelude.{true, List, ◌++◌, ◌≡◌, ℕ, ◌+◌, ◌-◌, ◌^◌, ◌≤◌, ◌<◌, max, pos, length, get_or}
 use Rattle.pieces.specs.Words.{entries}
 use Rattle.pieces.specs.declared.Piece.{Piece}
