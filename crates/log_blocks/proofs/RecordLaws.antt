@@ -1,7 +1,6 @@
 -- The laws of records.
 --
---   operation_first, operation_below, operation_later   whether a record may have its operation: the first, one below, the others
---   zeros-..           whether the fields that are not used are 0: by the first one that is not, and where the last one decides
+--   zeros_not .. other_fields           whether the fields that are not used are 0: by the first one that is not, and where the last one decides
 --   length_records     bytes that are read as n records are n records
 --   records_left n i b  of the n records in the block b those from the record i on
 --   records_start, records_next, records_end   all of them, one and the rest, none
@@ -12,28 +11,16 @@ use mathlib.Core.List.{List, [], ◌∷◌}
 use mathlib.Core.Path.{◌≡◌, refl, ap}
 use native.Mathlib.Nat.{sub-zero}
 use native.Mathlib.Omega.{arith}
-use lib.Dec.{eqb, leb}
+use lib.Dec.{eqb}
 use lib.ListN.{length, take, drop}
 use lib.Seq.{drop-drop}
 use Rattle.log_blocks.specs.Blocks.{records_at}
-use Rattle.log_blocks.specs.Records.{record_bytes, opens, allocates, releases, shortens, record_in, records_from}
-use Rattle.log_blocks.specs.Records.{operationb, zerosb, recordb, recordsb}
+use Rattle.log_blocks.specs.Records.{record_bytes, allocates, releases, record_in, records_from}
+use Rattle.log_blocks.specs.Records.{zerosb, recordb, recordsb}
 use Rattle.log_blocks.specs.declared.records.Record.{Record}
-use borrow.Author.Tests.{eq-eqb, ne_eqb, le-leb, lt-leb}
+use borrow.Author.Tests.{eq-eqb, ne_eqb}
 
 -- ---- the operation
-
-pub operation_first : (o : ℕ) → eqb o opens ≡ operationb true o
-unfolding operationb
-operation_first o = refl
-
-pub operation_below : (o : ℕ) → o < allocates → false ≡ operationb false o
-unfolding operationb
-operation_below o h = rw (lt-leb allocates o h) refl
-
-pub operation_later : (o : ℕ) → allocates ≤ o → leb o shortens ≡ operationb false o
-unfolding operationb
-operation_later o h = rw (le-leb allocates o h) refl
 
 -- ---- the fields that are not used
 

@@ -8,8 +8,6 @@
 --   compared_not, compared              the refusal number differs; it does not, and the answer decides
 --   plus i p                            what is played behind i records that agree
 --   play_start, play_stops, play_next, play_ends   records that are played: at first, one that does not agree, one that does, none left
---
--- Assumes nothing.
 use Prim.Native.Nat.{ℕ, suc, ◌+◌, ◌*◌, ◌≤◌, ◌<◌}
 use mathlib.Core.Bool.{Bool, true, false, not}
 use mathlib.Core.List.{List, ◌∷◌, ◌++◌}
@@ -133,13 +131,13 @@ module _ (n i : ℕ) (b : List ℕ) (f : File) (r : Record) (within : i < n) (is
   first : records_left n i b ≡ r ∷ records_left n (i + 1) b
   first = rw is (records_next n i b within)
 
-  pub play_stops : not t ≡ true → stopped i h.file ≡ plus i (played f (records_left n i b))
+  pub play_stops : t ≡ false → stopped i h.file ≡ plus i (played f (records_left n i b))
   unfolding played
   play_stops differs =
       let e = rw hears at (fails compares differs) in
       rw (first, e, hears) (stopped_plus i (heard r f).file)
 
-  pub play_next : not t ≡ false → plus (i + 1) (played h.file (records_left n (i + 1) b)) ≡ plus i (played f (records_left n i b))
+  pub play_next : t ≡ true → plus (i + 1) (played h.file (records_left n (i + 1) b)) ≡ plus i (played f (records_left n i b))
   unfolding played
   play_next agree =
       let e = rw hears at (passes compares agree) in
