@@ -259,11 +259,11 @@ module _ (sp : Space) (w : List ℕ) (i : ℕ) (x : Piece) (f : FoundIn sp w i x
 
   module _ (m : ℕ) (k : Class) (is : k ≡ class_of x.status) (r : Bool)
       (room : r ≡ room_behindb sp.page k (behind x) x.size m (entries_behind sp w i)) where
-    pub longer_no_room : not r ≡ true → new_size sp x.address x.size Longer m w i x ≡ Kept NoRoomBehind
+    pub longer_no_room : r ≡ false → new_size sp x.address x.size Longer m w i x ≡ Kept NoRoomBehind
     unfolding new_size
     longer_no_room e = rw (ap not (rw is at (fails room e)))
 
-    module _ (has : not r ≡ false) (g : Bool) (grows : g ≡ grows_beyondb sp.page sp.limit (behind x) m (entries_behind sp w i)) where
+    module _ (has : r ≡ true) (g : Bool) (grows : g ≡ grows_beyondb sp.page sp.limit (behind x) m (entries_behind sp w i)) where
       roomy : not (room_behindb sp.page (class_of x.status) (behind x) x.size m (entries_behind sp w i)) ≡ false
       roomy = ap not (rw is at (passes room has))
 
@@ -288,15 +288,15 @@ module _ (sp : Space) (w : List ℕ) (i : ℕ) (x : Piece) (f : FoundIn sp w i x
           omega (arith, ap behind found_is, next_above w t i l, ends_below w t (i + 1) l, f.sound.ranges.end_limit))
 
   module _ (m : ℕ) (k : Class) (is : k ≡ class_of x.status) (r : Bool) (left : r ≡ remainsb sp.page k x.size m) where
-    pub shorter_too_far : not r ≡ true → new_size sp x.address x.size Shorter m w i x ≡ Kept TooLittleLeft
+    pub shorter_too_far : r ≡ false → new_size sp x.address x.size Shorter m w i x ≡ Kept TooLittleLeft
     unfolding new_size
     shorter_too_far e = rw (ap not (rw is at (fails left e)))
 
-    pub shorter_bytes : not r ≡ false → new_size sp x.address x.size Shorter m w i x ≡ Bytes (x.size - m)
+    pub shorter_bytes : r ≡ true → new_size sp x.address x.size Shorter m w i x ≡ Bytes (x.size - m)
     unfolding new_size
     shorter_bytes e = rw (ap not (rw is at (passes left e)))
 
-    pub shorter_fits : not r ≡ false → m ≤ x.size
+    pub shorter_fits : r ≡ true → m ≤ x.size
     shorter_fits e = remains_some sp.page k x.size m (passes left e)
 
   -- a piece of its new size ends within the limit

@@ -8,7 +8,7 @@
 --
 -- Assumes nothing.
 use Prim.Native.Nat.{ℕ, ◌≤◌, ◌<◌}
-use mathlib.Core.Bool.{Bool, true, false, not}
+use mathlib.Core.Bool.{Bool, true, false}
 use mathlib.Core.List.{List}
 use mathlib.Core.Path.{◌≡◌, refl, sym, ap, ◌∙◌}
 use native.Mathlib.Omega.{arith}
@@ -54,7 +54,7 @@ pub sound_true : (sp : Space) (w : List ℕ) → SoundSpace sp w → soundb sp w
 sound_true sp w s = (local_form sp.page sp.limit sp.end sp.count w).0 s
 
 -- as `is_sound` answered
-pub tested : (sp : Space) (w : List ℕ) {r : Bool} → r ≡ soundb sp w → not r ≡ false → SoundSpace sp w
+pub tested : (sp : Space) (w : List ℕ) {r : Bool} → r ≡ soundb sp w → r ≡ true → SoundSpace sp w
 tested sp w e h = is_sound_true sp w (passes e h)
 
 -- ---- a settled change

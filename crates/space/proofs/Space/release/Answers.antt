@@ -1,0 +1,17 @@
+-- `space::Space::release` meets its contract: refusal 2 is the law of a table that is not sound; of a sound one it does what was decided.
+use mathlib.Core.Path.{sym}
+use Rattle.pages.proofs.Numbers.{fails}
+use Rattle.space.proofs.GiveLaws.{released_unsound}
+use Rattle.space.proofs.OutcomeLaws.{tested}
+use Rattle.space.proofs.Space.release.Goals as goal
+
+pub returns-then-not-is_sound : goal.returns-then-not-is_sound
+returns-then-not-is_sound c =
+    let a = c.args in
+    let unsound = fails c.is_sound.ensures c.if-not-is_sound.true in
+    sym (released_unsound a.self a.address a.size a.table.now unsound)
+
+pub decide_release-requires : goal.decide_release-requires
+decide_release-requires c =
+    let a = c.args in
+    tested a.self a.table.now c.is_sound.ensures c.if-not-is_sound.false
