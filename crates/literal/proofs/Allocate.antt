@@ -3,7 +3,6 @@
 -- In this order: a table with one more live piece is determined by it; live pieces of what the rules write; what was chosen; the large rule at
 -- the place that was chosen, for any grant; a large and a small request; `allocated_chain`.
 --
--- Assumes nothing.
 use Prim.Native.Nat.{ℕ, suc, ◌+◌, ◌≤◌, ◌<◌}
 use mathlib.Core.Bool.{true}
 use mathlib.Core.List.{List, [], ◌∷◌, ◌++◌, append-nil, append_assoc}
@@ -21,7 +20,7 @@ use Rattle.literal.proofs.ChangedChains.{lives_only_free, file_of_chain}
 use Rattle.literal.specs.Steps.{in_place_of, into_large, at_end, large_rule, large_piece, into_small, small_page, after_allocating_small, after_allocating}
 use Rattle.pages.proofs.PageLaws.{borders, up_border}
 use Rattle.pages.specs.Pages.{up, Border}
-use Rattle.pieces.proofs.PieceLaws.{small, large, entry_split}
+use Rattle.pieces.proofs.PieceLaws.{entry_split}
 use Rattle.pieces.specs.Pieces.{piece, behind, Small, metadata, raw, EntryIs}
 use Rattle.pieces.specs.declared.Class.TheVariants.{SmallMetadata, SmallRaw, Large}
 use Rattle.pieces.specs.declared.Class.{Class}

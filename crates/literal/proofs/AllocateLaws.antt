@@ -3,7 +3,6 @@
 -- In this order: one entry is replaced, or entries come behind the last; bytes that the large rule gives (Grant), and the remainder behind
 -- them; the large rule in a free large entry and at the end; bytes from the start of a free entry on, and a small piece there.
 --
--- Assumes nothing.
 use Prim.Native.Nat.{ℕ, suc, ◌+◌, ◌-◌, ◌≤◌, ◌<◌}
 use mathlib.Core.List.{List, [], ◌∷◌, ◌++◌, append-nil, append_assoc, cons≢nil, append-ne-nil_of_right_ne-nil}
 use mathlib.Core.Path.{◌≡◌, refl, ap}
@@ -49,8 +48,8 @@ pub in_place_chain : {P E a : ℕ} {s : Status} (f : Piece → List Piece) {es :
     → Replaces P E (f x) x → ChainFrom P E s a es → ChainFrom P E s a (in_place_of i f es)
 unfolding in_place_of
 in_place_chain {s = s} f (entry_here {es = ys}) h (step e r) = h.chain s ys e r
-in_place_chain f (entry_later {es = ys} {i = i} q) h (step e r) =
-    step (entry_before (in_place_of i f ys) e (λ x y. absurd (in_place_some f q h.some x))) (in_place_chain f q h r)
+in_place_chain {a = a} f (entry_later {es = ys} {i = i} q) h (step {n = n} e r) =
+    step (entry_before (in_place_of i f ys) e (λ x y. absurd (in_place_some f q h.some x))) (in_place_chain {a = a + n} f q h r)
 
 -- ---- entries come behind the last
 

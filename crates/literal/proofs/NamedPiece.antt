@@ -6,7 +6,6 @@
 --   removed         the live pieces without the named one are those around it
 --   resized         the live pieces with the named one q bytes long have it between the same others
 --
--- Assumes nothing.
 use Prim.Native.Nat.{ℕ, ◌+◌, ◌<◌}
 use mathlib.Core.Bool.{Bool, true, false, not, ◌&&◌}
 use mathlib.Core.List.{List, [], ◌∷◌, ◌++◌, reverse, reverse_aux, Memᴰ}
@@ -24,7 +23,7 @@ use Rattle.rules.proofs.RemoveLaws.{named_address}
 use Rattle.rules.proofs.SpliceLaws.{remove_at, resize_at}
 use Rattle.rules.specs.Editing.{Name, names, remove, resize}
 use Rattle.table.proofs.Canon.{canonical}
-use Rattle.table.proofs.Chain.{Entry, ChainFrom, step, Chain}
+use Rattle.table.proofs.Chain.{Entry, ChainFrom, stop, step, Chain}
 use Rattle.table.proofs.ChainLaws.{mem_from}
 use Rattle.table.specs.Fill.{lives}
 
@@ -65,12 +64,14 @@ module _ (P : ℕ) (n : Name) (a z : ℕ) (k : Class) (named : names n (piece a 
       go true = refl
       go false = refl
 
-  reached_from : {E b : ℕ} {ls es : List Piece} → Upto P b ls → ChainFrom P E (nearest ls) b es → Memᴰ (piece a z (Live k)) es
-      → Reached P E n a z k ls es
+  -- s is the status of the nearest entry before
+  reached_from : {E b : ℕ} {s : Status} {ls es : List Piece} → Upto P b ls → ChainFrom P E s b es → s ≡ nearest ls
+      → Memᴰ (piece a z (Live k)) es → Reached P E n a z k ls es
   unfolding at_named
-  reached_from u (step e r) (Memᴰ.head q) = reached_here u e r q
-  reached_from u (step {t = t} {a = b} {n = m} e r) (Memᴰ.tail i) =
-      let h = reached_from (add u e) r i in
+  reached_from u (step e r) near (Memᴰ.head q) = reached_here u (rw near at e) r q
+  reached_from u (step {t = t} {a = b} {n = m} e r) near (Memᴰ.tail i) =
+      let f = rw near at e in
+      let h = reached_from (add u f) r refl i in
       record {
         before = h.before;
         behind = h.behind;
@@ -80,11 +81,12 @@ module _ (P : ℕ) (n : Name) (a z : ℕ) (k : Class) (named : names n (piece a 
         whole = h.whole;
         walked = λ f. rw (not_named (piece b m t) (λ q. omega (arith, e.some, mem_from r i))) (h.walked f);
       }
+  reached_from u (stop e b) near i = elim i [ ]
 
 pub reached : {P E : ℕ} {k : Class} {x : Piece} {es : List Piece} (n : Name) → Chain P E es → Memᴰ x es → x.status ≡ Live k
     → names n x ≡ true → Reached P E n x.address x.size k [] es
 reached {P} {k = k} {x = x} {es = es} n c m q h =
-    reached_from P n x.address x.size k h start c (subst (λ (t : Status). Memᴰ (piece x.address x.size t) es) q m)
+    reached_from P n x.address x.size k h start c refl (subst (λ (t : Status). Memᴰ (piece x.address x.size t) es) q m)
 
 pub among_behind : (ls : List Piece) (x : Piece) {y : Piece} {ys : List Piece} → Memᴰ y ys → Memᴰ y (reverse_aux ls (x ∷ ys))
 among_behind [] x i = Memᴰ.tail i

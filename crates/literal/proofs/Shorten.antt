@@ -2,7 +2,6 @@
 --
 -- In this order: what remains is a piece where it stood; the cut part becomes free behind it, as in a release; `shortened_chain`.
 --
--- Assumes nothing.
 use Prim.Native.Nat.{ℕ, ◌+◌, ◌-◌, ◌≤◌, ◌<◌}
 use mathlib.Core.Bool.{true}
 use mathlib.Core.List.{List, ◌∷◌, reverse_aux, Memᴰ}

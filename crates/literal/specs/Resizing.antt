@@ -17,7 +17,7 @@
 --   after_shortening_at P E k ls x  x is shorter, and the cut part is freed behind it
 --   after_shortening P E n k es   the file after the piece of the name n was shortened
 --
--- Assumes nothing. What is proved of these is in Statements.antt.
+-- What is proved of these is in Statements.antt.
 use Rattle.std.specs.Prelude.{List, [], ◌∷◌, ◌++◌, ℕ, ◌+◌, ◌-◌}
 use Rattle.pages.specs.Pages.{up}
 use Rattle.pieces.specs.declared.Class.TheVariants.{Large}

@@ -9,7 +9,6 @@
 --   Shortening          of a sound table: shortening a live piece, by a byte or more, of which enough remains is the same
 --   AllocatingIn, ReleasingIn, ExtendingIn, ShorteningIn   the same of given entries
 --
--- Assumes nothing.
 use Rattle.std.specs.Prelude.{◌≡◌, true, ℕ, ◌+◌, ◌-◌, ◌≤◌, ◌<◌}
 use mathlib.Core.List.{List, Memᴰ}
 use Rattle.pieces.specs.declared.Class.{Class}
