@@ -20,8 +20,6 @@ use Rattle.log_blocks.specs.Records.{zerosb, recordb, recordsb}
 use Rattle.log_blocks.specs.declared.records.Record.{Record}
 use borrow.Author.Tests.{eq-eqb, ne_eqb}
 
--- ---- the operation
-
 -- ---- the fields that are not used
 
 abbrev Not0 : ℕ → Type 0
