@@ -25,7 +25,7 @@ pub record Among (n : Name) (ps : List Piece) : Type 0 where
   pub named : names n it ≡ true
 
 -- a live entry is among the live pieces, and these are entries and live
-pub mem_lives : {es : List Piece} {x : Piece} {c : Class} → x.status ≡ Live c → Memᴰ x es → Memᴰ x (lives es)
+pub mem_lives : {x : Piece} {es : List Piece} {c : Class} → x.status ≡ Live c → Memᴰ x es → Memᴰ x (lives es)
 mem_lives {x = x} q (Memᴰ.head {x = y} {xs = es} e) =
     rw (lives_live y es (sym (ap (λ (v : Piece). v.status) e) ∙ q)) (Memᴰ.head e)
 mem_lives {x = x} q (Memᴰ.tail {x = y} {xs = es} h) = go y.status refl (mem_lives q h)

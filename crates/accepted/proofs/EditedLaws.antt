@@ -24,7 +24,7 @@ use Rattle.pieces.specs.declared.Piece.{Piece}
 use Rattle.rules.proofs.RemoveLaws.{named_address}
 use Rattle.rules.specs.Editing.{Name, names, insert, remove, resize}
 use Rattle.table.proofs.GapLaws.{apart_le}
-use Rattle.table.specs.Fill.{last_end, end_of, GoodFrom, next}
+use Rattle.table.specs.Fill.{last_end, end_of, GoodFrom, next, none}
 
 -- ---- members
 
@@ -161,15 +161,16 @@ module _ (P : ℕ) (pos : 0 < P) where
   pub good_above : {k : Class} {a : ℕ} {ps : List Piece} {x : Piece} → GoodFrom P k a ps → Memᴰ x ps → a ≤ x.address
   good_above {x = x} (next d w g) (Memᴰ.head e) = omega (arith, apart_le P pos d, ap (λ (v : Piece). v.address) e)
   good_above {x = x} (next d w g) (Memᴰ.tail h) = omega (arith, apart_le P pos d, good_above g h)
+  good_above {x = x} none x10 = elim x10 [ ]
 
   good_rest : {k : Class} {a : ℕ} {q : Piece} {ps : List Piece} → GoodFrom P k a (q ∷ ps) → GoodFrom P (class_of q.status) (behind q) ps
   good_rest (next d w g) = g
 
-  pub insert_apart : {k : Class} {a : ℕ} {y : Piece} (p : Piece) (ps : List Piece) → GoodFrom P k a (insert p ps) → Memᴰ y ps
+  pub insert_apart : (p : Piece) (ps : List Piece) {k : Class} {a : ℕ} {y : Piece} → GoodFrom P k a (insert p ps) → Memᴰ y ps
       → Apart p.address (behind p) y
   unfolding insert
   insert_apart p [] g h = elim h [ ]
-  insert_apart {k} {a} {y} p (q ∷ ps) g h = go (ltb p.address q.address) g h (λ r i. insert_apart p ps r i)
+  insert_apart p (q ∷ ps) {k} {a} {y} g h = go (ltb p.address q.address) g h (λ r i. insert_apart p ps r i)
     where
       Rest : Type 0
       Rest = GoodFrom P (class_of q.status) (behind q) (insert p ps) → Memᴰ y ps → Apart p.address (behind p) y
@@ -187,11 +188,11 @@ module _ (P : ℕ) (pos : 0 < P) where
     is_named : names n y ≡ true → NamedOr n z y
     is_apart : Apart n.address (n.address + z) y → NamedOr n z y
 
-  pub resize_apart : {k : Class} {a : ℕ} {y : Piece} (n : Name) (z : ℕ) (ps : List Piece) → GoodFrom P k a (resize n z ps) → Among n ps
+  pub resize_apart : (n : Name) (z : ℕ) (ps : List Piece) {k : Class} {a : ℕ} {y : Piece} → GoodFrom P k a (resize n z ps) → Among n ps
       → Memᴰ y ps → NamedOr n z y
   unfolding resize
   resize_apart n z [] g among h = elim h [ ]
-  resize_apart {k} {a} {y} n z (q ∷ ps) g among h = go (names n q) refl g h (λ r m i. resize_apart n z ps r m i)
+  resize_apart n z (q ∷ ps) {k} {a} {y} g among h = go (names n q) refl g h (λ r m i. resize_apart n z ps r m i)
     where
       Rest : Type 0
       Rest = GoodFrom P (class_of q.status) (behind q) (resize n z ps) → Among n ps → Memᴰ y ps → NamedOr n z y

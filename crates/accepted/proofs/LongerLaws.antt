@@ -72,6 +72,7 @@ module _ (P : ℕ) (pos : 0 < P) where
   pub from : {E b n a : ℕ} {m : Class} {s : Status} {tl es : List Piece} → ChainFrom P E s a es → Stands b n m tl es → From E b n m tl
   from (step {s = s} y r) stands_here = record { status = s; entry = y; rest = r }
   from (step y r) (stands_later i) = from r i
+  from {E = E} {b = b} {n = n} {m = m} {tl = tl} (stop {s = s} {a = a} _ _) x7 = elim x7 [ ]
 
   -- ---- shorter
 

@@ -97,17 +97,17 @@ module _ (sp : Space) (w : List ℕ) (s : SoundSpace sp w) where
 
   -- ---- a piece fits there
 
-  fits_large : {E b z : ℕ} {m : Class} {fs : List Piece} {x : Piece} → Memᴰ x fs → x.status ≡ Free Large → Border sp.page b
+  fits_large : {x : Piece} {E b z : ℕ} {m : Class} {fs : List Piece} → Memᴰ x fs → x.status ≡ Free Large → Border sp.page b
       → x.address ≤ b → b + z ≤ behind x → Fits sp.page pos E b z m fs
-  fits_large {E} {b} {z} {m} {x = x} (Memᴰ.head {x = y} {xs = fs} e) q bo l h =
+  fits_large {x} {E} {b} {z} {m} (Memᴰ.head {x = y} {xs = fs} e) q bo l h =
       let t : Fits sp.page pos E b z m (piece x.address x.size (Free Large) ∷ fs) = in_large_lem bo l h in
       let u : y ≡ piece x.address x.size (Free Large) = sym e ∙ ap (λ (v : Status). piece x.address x.size v) q in
       rw u t
   fits_large (Memᴰ.tail i) q bo l h = beyond (fits_large i q bo l h)
 
-  fits_small : {E z : ℕ} {m : Class} {fs : List Piece} {x : Piece} → Memᴰ x fs → x.status ≡ Free m → Small m → z ≤ x.size
+  fits_small : {x : Piece} {E z : ℕ} {m : Class} {fs : List Piece} → Memᴰ x fs → x.status ≡ Free m → Small m → z ≤ x.size
       → Fits sp.page pos E x.address z m fs
-  fits_small {E} {z} {m} {x = x} (Memᴰ.head {x = y} {xs = fs} e) q t h =
+  fits_small {x} {E} {z} {m} (Memᴰ.head {x = y} {xs = fs} e) q t h =
       let f : Fits sp.page pos E x.address z m (piece x.address x.size (Free m) ∷ fs) = in_small_lem t h in
       let u : y ≡ piece x.address x.size (Free m) = sym e ∙ ap (λ (v : Status). piece x.address x.size v) q in
       rw u f
