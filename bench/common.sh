@@ -1,17 +1,16 @@
 # What the programs of this folder share, for them to source: the programs that they run, and what is measured of one run.
 #
 #   counting       whether --count is the first option; it is taken away then
-#   ours, plain    the proved program, as `rt check bench` builds it or BENCH names it, and the plain C version
+#   ours, plain    the proved program, as `examples/prove bench` builds it or BENCH names it, and the plain C version
 #   made           the folder of what is made here
 #
 # shellcheck shell=bash
 here=$(cd "$(dirname "${BASH_SOURCE[0]}")" && pwd)
 counting=false
 [ "${1:-}" = --count ] && { counting=true; shift; }
-kit=${RATTLE_HOME:-$(dirname "$(dirname "$(readlink -f "$(command -v rt)")")")}
-own=$kit/on/$(uname -m)
+kit=$(dirname "$(dirname "$(readlink -f "$(command -v rt)")")")
 made=$here/../target/bench
-ours=${BENCH:-$here/../target/bin/bench}
+ours=${BENCH:-$here/../crates/bench/out/bench}
 plain=$made/space_c
 TIMEFORMAT=%U
 
@@ -21,7 +20,7 @@ must_be_there() { # FILE COMMAND
 
 # The proved program is there; the plain C version, and what counts instructions if that is asked for.
 compile() {
-    must_be_there "$ours" 'rt check bench'
+    must_be_there "$ours" 'examples/prove bench'
     mkdir -p "$made"
     compile_c space
     if $counting; then compile_counter; fi
@@ -29,13 +28,13 @@ compile() {
 
 # A program of this folder, NAME_c of NAME.c and libraries.
 compile_c() { # NAME LIBRARIES..
-    "$own/toolchain/bin/clang" --target=x86_64-unknown-linux-gnu -march=x86-64 -std=c11 -O2 -Wall -Wextra -Werror -ffreestanding -fPIE \
+    "$kit/toolchain/bin/clang" --target=x86_64-unknown-linux-gnu -march=x86-64 -std=c11 -O2 -Wall -Wextra -Werror -ffreestanding -fPIE \
         -I "$here/headers" -c "$here/$1.c" -o "$made/$1_c.o"
     link_program "$made/$1_c" "$made/$1_c.o" "${@:2}"
 }
 
 link_program() { # PROGRAM OBJECTS..
-    "$own/bin/rattle-link" --target x86_64-unknown-linux-gnu --toolchain "$own/toolchain" -o "$@" 2>"$made/link" || { cat "$made/link" >&2; exit 2; }
+    "$kit/bin/rattle-link" --target x86_64-unknown-linux-gnu --toolchain "$kit/toolchain" -o "$@" >"$made/link" 2>&1 || { cat "$made/link" >&2; exit 2; }
 }
 
 # What counts instructions: the emulator, and its plugin.
@@ -48,14 +47,14 @@ compile_counter() {
 
 # Seconds of one run, with what it wrote in the file `said`.
 seconds() { # PROGRAM ASKED
-    { time "$here/../tests/as_rt_runs" "$1" >"$made/said" <<<"$2"; } 2>&1
+    { time "$1" >"$made/said" <<<"$2"; } 2>&1
 }
 
 # Instructions of one run, its loader's among them, with what it wrote there too. The C library's `memset` and `memcpy` are to go without `rep`,
 # whose every step would count as one.
 instructions() { # PROGRAM ASKED
     qemu-x86_64 -E GLIBC_TUNABLES=glibc.cpu.x86_rep_stosb_threshold=1000000000:glibc.cpu.x86_rep_movsb_threshold=1000000000 \
-        -plugin "$made/count.so" "$own/toolchain/lib/ld-linux-x86-64.so.2" --library-path "$own/toolchain/lib" "$1" 2>&1 >"$made/said" <<<"$2"
+        -plugin "$made/count.so" "$1" 2>&1 >"$made/said" <<<"$2"
 }
 
 # Of several runs each must have written what the first one did, which is kept in the file `first`.
@@ -70,7 +69,5 @@ same_as_first() { # FIRST THIS CASE
 }
 
 machine() {
-    local how=''
-    [ -x "$own/toolchain/bin/qemu-x86_64" ] && how=", all programs under $("$own/toolchain/bin/qemu-x86_64" --version | sed -n 's/ (.*//; 1p')"
-    echo "machine: $(uname -m), $(nproc) processors$how; $(date -u +%Y-%m-%d); $(head -n 1 "$kit/KIT-ID")"
+    echo "machine: $(uname -m), $(nproc) processors; $(date -u +%Y-%m-%d); $(head -n 1 "$kit/KIT-ID")"
 }
