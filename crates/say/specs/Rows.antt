@@ -2,7 +2,6 @@
 --
 --   Rows page end           a page has a byte, and nothing overflows when a file is drawn page by page
 --
--- Assumes nothing.
 use Rattle.std.specs.Prelude.{ℕ, ◌<◌, ◌≤◌}
 use Rattle.pages.specs.Pages.{largest_page}
 use Rattle.table.specs.Sound.{largest_limit}
