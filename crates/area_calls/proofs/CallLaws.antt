@@ -2,20 +2,17 @@
 --
 --   carry_first, carry_most, carry_written   a change that is carried out and written: from where and how far, and that the area is then that of
 --                                 what it leaves
---   leads_change, leads_refused   what a decision leads to, by what was asked; no_address, a refused allocation has none
 --   in_other, in_done, in_refused            what a call leaves: on bytes that are no area; done; refused
 --   held                          what was read out of an area, it holds
---   told_done, told_refused, told_unsound    what a call is told, and leaves, of what was read; told-other, of bytes that are no area
+--   told_done, told_refused, told_unsound    what a call is told, and leaves, of what was read; told_other, of bytes that are no area
 --   open_done, open_refused       what an opening leaves
 --   with_done, with_refused       the result of an allocation, by what it left of the area
 --   in_short, in_enough           what an allocation leaves, by the length of its result
 --   result_done, result_refused   the same, of what was told
---
--- Assumes nothing.
 use Prim.Native.Nat.{ℕ, ◌+◌, ◌*◌, ◌≤◌, ◌<◌, max}
 use mathlib.Core.Bool.{Bool, true, false}
 use mathlib.Core.List.{List}
-use mathlib.Core.Path.{◌≡◌, refl, sym, ap, ◌∙◌, subst⁻¹}
+use mathlib.Core.Path.{◌≡◌, refl, sym, ap, ◌∙◌}
 use native.Mathlib.Omega.{arith}
 use lib.Dec.{eqb}
 use lib.ListN.{length, take, drop}
@@ -32,14 +29,12 @@ use Rattle.change.specs.declared.plan.Plan.{Plan}
 use Rattle.little.proofs.LittleLaws.{length_numbers}
 use Rattle.little.specs.Little.{word_bytes, part, bytes_of, bytes_of_all, laid, Bytes}
 use Rattle.pieces.specs.Words.{entry_words}
-use Rattle.refusals.specs.AnswerNumbers.{out_of_range, not_sound, slice_too_short, no_address, open_number, allocate_number, address_of}
-use Rattle.refusals.specs.declared.AllocateAnswer.{AllocateAnswer}
-use Rattle.refusals.specs.declared.AllocateAnswer.TheVariants as answers
+use Rattle.refusals.specs.AnswerNumbers.{out_of_range, not_sound, slice_too_short, no_address, open_number}
 use Rattle.settle.proofs.SettleLaws.{length_carried, carried_front, carried_back}
 use Rattle.settle.specs.Settle.{carried_out, CarryFits}
 use Rattle.space.proofs.GiveLaws.{released_unsound, resized_unsound}
 use Rattle.space.proofs.PlaceLaws.{allocated_unsound}
-use Rattle.space.specs.Halves.{carry_said, carried, Carries, Refuses}
+use Rattle.space.specs.Halves.{carry_said, carried, Refuses}
 use Rattle.space.specs.Opening.{opened}
 use Rattle.space.specs.Outcomes.{soundb, Outcome, refused}
 use Rattle.space.specs.Placing.{Placed, unplaced, allocated}
@@ -86,23 +81,6 @@ meant_unsound : (q : Asked) (sp : Space) (w : List ℕ) → soundb sp w ≡ fals
 meant_unsound (Allocate t s) sp w e = allocated_unsound sp t s w e
 meant_unsound (Release a z) sp w e = ap unplaced (released_unsound sp a z w e)
 meant_unsound (Resize a z way m) sp w e = ap unplaced (resized_unsound sp a z way m w e)
-
--- q was asked, and is p
-module _ (sp : Space) (w : List ℕ) {q p : Asked} (is : q ≡ p) where
-  pub leads_change : {a : ℕ} {plan : Plan} → a ≡ (meant p sp w).address → Carries sp w (meant p sp w).outcome plan → Leads sp w (meant q sp w) (Change a plan)
-  leads_change {a} {plan} at c = subst⁻¹ (λ (x : Asked). Leads sp w (meant x sp w) (Change a plan)) is (at, c)
-
-  pub leads_refused : {n k : ℕ} → k ≡ n → no_address ≡ (meant p sp w).address → Refuses sp w (meant p sp w).outcome n → Leads sp w (meant q sp w) (Refused k)
-  leads_refused {n} {k} e at c =
-      subst⁻¹ (λ (x : Asked). Leads sp w (meant x sp w) (Refused k)) is (at, subst⁻¹ (Refuses sp w (meant p sp w).outcome) e c)
-
-pub no_address_lem : (x : AllocateAnswer) → (allocate_number x ≡ 0 → ⊥) → no_address ≡ address_of x
-no_address_lem (answers.At a) n = absurd (n refl)
-no_address_lem answers.NotSound n = refl
-no_address_lem answers.UnknownType n = refl
-no_address_lem answers.NoBytes n = refl
-no_address_lem answers.BeyondLimit n = refl
-no_address_lem answers.TableFull n = refl
 
 -- ---- what a call leaves
 

@@ -5,8 +5,6 @@
 --   address_in q b    the address that it is told; bytes that are no area give none
 --   Leads sp w o r    the decision r leads to o
 --   ToldIn q b y c    y is what q is told of the area b, which is c then
---
--- Assumes nothing.
 use Rattle.std.specs.Prelude.{cond, List, ◌≡◌, ℕ, length}
 use Rattle.area_bytes.specs.Area.{area_lengthb, state_in, words_in}
 use Rattle.area_calls.specs.Calls.{Left, area_said, in_area}

@@ -11,8 +11,6 @@
 --   area_said k b, both_said k b r  what a call answered and left
 --   Lent b w              b has the length of an area, and w is a table for its words
 --   Holds b sp w          b is the area of the state sp and the words w
---
--- Assumes nothing.
 use Rattle.std.specs.Prelude.{true, cond, List, ◌≡◌, ℕ, ltb, eqb, length}
 use Rattle.area_bytes.specs.Area.{area_lengthb, state_in, words_in, area_of, AreaFits}
 use Rattle.little.specs.Little.{word_bytes, bytes_of, laid}
