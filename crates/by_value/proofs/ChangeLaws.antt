@@ -1,22 +1,14 @@
 -- Laws of a change that is carried out with a summary.
 --
 --   went_countable, came_countable    the entries that are to go, and those that were laid, can be counted
---   ends_fit                          the end before and after fits a signed number
 --   replaces                          the new table came of the old one as `running` asks
---   changed_with                      and so the state, every word and every number are those that the change is to leave
---
--- Assumes nothing.
-use Prim.Native.Nat.{ℕ, ◌-◌, ◌^◌, ◌<◌}
+use Prim.Native.Nat.{ℕ, ◌-◌}
 use mathlib.Core.List.{List}
 use mathlib.Core.Path.{◌≡◌, ap, ◌∙◌}
 use native.Mathlib.Omega.{arith}
-use lib.IntN.{ℤ, pos}
+use lib.IntN.{pos}
 use lib.ListN.{length}
-use mir.Syntax.{w64}
-use mir.Val.{to_z, of_z}
-use Rattle.by_value.specs.Change.{ChangeFits, changed_by}
-use Rattle.by_value.specs.Told.{told}
-use Rattle.by_value.specs.With.{summed}
+use Rattle.by_value.specs.Change.{ChangeFits}
 use Rattle.change.specs.declared.plan.Plan.{Plan}
 use Rattle.edit.specs.New.{new_entries}
 use Rattle.pieces.proofs.WordLaws.{entries_parts}
@@ -28,9 +20,8 @@ use Rattle.space.specs.Halves.{carried, carry_said}
 use Rattle.space.specs.Outcomes.{Outcome}
 use Rattle.space.specs.declared.Space.{Space}
 use Rattle.totals.proofs.CountLaws.{countable_sound, countable_part}
-use Rattle.totals.proofs.MovedLaws.{moved_on}
 use Rattle.totals.specs.Counting.{Countable}
-use Rattle.totals.specs.Summary.{summary_of, moved_by}
+use Rattle.totals.specs.Summary.{summary_of}
 use Rattle.totals.specs.declared.Summary.{Summary}
 
 module _ {sp : Space} {w : List ℕ} {s : Summary} {plan : Plan} (f : ChangeFits sp w s plan) where
@@ -45,9 +36,6 @@ module _ {sp : Space} {w : List ℕ} {s : Summary} {plan : Plan} (f : ChangeFits
     words_are : v ≡ carried_out sp.count w plan
     words_are = ap (λ (o : Outcome). o.words) left
 
-    end_is : r.end ≡ plan.end
-    end_is = ap (λ (o : Outcome). o.state.end) left
-
     abbrev laid_to : ℕ
     laid_to = plan.count - (sp.count - plan.to)
 
@@ -56,12 +44,6 @@ module _ {sp : Space} {w : List ℕ} {s : Summary} {plan : Plan} (f : ChangeFits
 
     pub came_countable : Countable v plan.from laid_to
     came_countable = countable_part plan.from laid_to new_countable (omega (arith, f.fits.counted)) (omega arith)
-
-    pub ends_fit : (sp.end < 2 ^ 63) × (r.end < 2 ^ 63)
-    ends_fit =
-        let a = f.sound.ranges in
-        let b = f.next.ranges in
-        (omega (arith, a.end_limit, a.limit_largest), omega (arith, end_is, b.end_limit, b.limit_largest))
 
     -- ---- was and is are the summaries of what went and of what came
 
@@ -81,14 +63,3 @@ module _ {sp : Space} {w : List ℕ} {s : Summary} {plan : Plan} (f : ChangeFits
             stands = rw words_are (carried_entries f.fits);
             countable = new_countable;
           }
-
-    -- m is the signed number, which was handed on
-    pub changed_with : {m : ℤ} {t : Summary} → m ≡ moved_by sp.end r.end → t ≡ summary_of (to_z w64 (of_z w64 m)) (entries v 0 plan.count)
-        → told (carry_said r v) t ≡ changed_by sp w plan
-    changed_with {t = t} moved summary =
-        let m_is = moved_on sp.end r.end ends_fit.0 ends_fit.1 moved in
-        let t_is : t ≡ summary_of (moved_by sp.end r.end) (entries v 0 plan.count) =
-        summary ∙ ap (λ (k : ℤ). summary_of k (entries v 0 plan.count)) m_is in
-        let count_is : r.count ≡ plan.count = ap (λ (o : Outcome). o.state.count) left in
-        let summed_is : t ≡ summed sp (carry_said r v) = t_is ∙ rw count_is in
-        ap (told (carry_said r v)) summed_is ∙ ap (λ (o : Outcome). told o (summed sp o)) left

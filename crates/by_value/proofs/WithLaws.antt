@@ -1,7 +1,6 @@
 -- Laws of the calls with a summary, by those without one.
 --
 --   unless_accepted, unless_refused_lem  the new summary, or the old one
---   test_unsound, test_sound            the test of a call, in its two steps
 --   agreeing_yes, agreeing_not          a call where the summary agrees, and where it does not
 --   not_agreed, not_placed              a call whose test failed is refused 2; an unsound table is so too without a summary
 --   refused_with, refused_placing       a call that decided to refuse leaves the summary
@@ -9,12 +8,10 @@
 --   changed_with, placed_with           a call that carried out a plan leaves the summary of the new table
 --   opened_with_lem                     an opening
 --   freshened_not, -done, fresh_whole   the summary worked out afresh
---
--- Assumes nothing.
 use Prim.Native.Nat.{ℕ, ◌-◌}
-use mathlib.Core.Bool.{Bool, true, false, not, ◌&&◌}
+use mathlib.Core.Bool.{Bool, true, false, ◌&&◌}
 use mathlib.Core.List.{List}
-use mathlib.Core.Path.{◌≡◌, refl, sym, ap, ◌∙◌, subst, subst⁻¹}
+use mathlib.Core.Path.{◌≡◌, refl, sym, ap, ◌∙◌, subst⁻¹}
 use native.Mathlib.Nat.{sub-zero}
 use native.Mathlib.Omega.{arith}
 use lib.IntN.{pos}
@@ -50,15 +47,7 @@ pub unless_refused_lem : {k : ℕ} (new old : Summary) → (k ≡ 0 → ⊥) →
 unfolding unless_refused
 unless_refused_lem {k} new old n = rw (ne_eqb k 0 n)
 
--- ---- the test of a call
-
--- r is what `is_sound` answered
-module _ (sp : Space) (w : List ℕ) (s : Summary) {r : Bool} (is : r ≡ soundb sp w) where
-  pub test_unsound : not r ≡ true → false ≡ (soundb sp w && agreeb sp w s)
-  test_unsound h = let e = fails is h in rw e
-
-  pub test_sound : not r ≡ false → agreeb sp w s ≡ (soundb sp w && agreeb sp w s)
-  test_sound h = let e = passes is h in rw e
+-- ---- a call where the summary agrees, and where it does not
 
 module _ {X : Type 0} (form : Outcome → X) (out : X → Outcome) (sp : Space) (w : List ℕ) (s : Summary) (x : X) where
   pub agreeing_not : agreeb sp w s ≡ false → agreeing form out sp w s x ≡ told (form (refused not_sound sp w)) s
@@ -100,7 +89,7 @@ module _ {X : Type 0} (form : Outcome → X) (out : X → Outcome) (sp : Space) 
 -- ---- the calls, as the code has them: r is what the test answered
 
 module _ (sp : Space) (w : List ℕ) (s : Summary) {r : Bool} (is : r ≡ (soundb sp w && agreeb sp w s)) where
-  module _ (h : not r ≡ true) where
+  module _ (h : r ≡ false) where
     pub not_agreed : (o : Outcome) → (soundb sp w ≡ false → o ≡ refused not_sound sp w) → told (refused not_sound sp w) s ≡ agreeing plain plain sp w s o
     not_agreed o unsound = disagreed plain plain sp w s o refl unsound (fails is h)
 
@@ -108,7 +97,7 @@ module _ (sp : Space) (w : List ℕ) (s : Summary) {r : Bool} (is : r ≡ (sound
         → told (unplaced (refused not_sound sp w)) s ≡ agreeing unplaced (λ y. y.outcome) sp w s x
     not_placed x unsound = disagreed unplaced (λ y. y.outcome) sp w s x refl unsound (fails is h)
 
-  module _ (h : not r ≡ false) where
+  module _ (h : r ≡ true) where
     agreed : agreeb sp w s ≡ true
     agreed = and_right (soundb sp w) (agreeb sp w s) (passes is h)
 

@@ -3,8 +3,6 @@
 --   ChangeFits sp w s plan     what it asks: the plan is one for a sound table with which the summary agrees, and leaves a sound one
 --   Changed, change_said r v   what it leaves: the state, every word of the table, and the summary
 --   changed_by sp w plan       what it is to leave: the plan carried out, and the summary of the new table
---
--- Assumes nothing.
 use Rattle.std.specs.Prelude.{true, List, ◌≡◌, ℕ}
 use Rattle.by_value.specs.Told.{Told, told}
 use Rattle.by_value.specs.With.{agreeb, summed}

@@ -3,8 +3,6 @@
 --   Told X          that; told x s makes one
 --   kept c g s      the summary after a call by value: s, the one handed back, where the call counted, and else g, the one that was given
 --   fresh_said r w  what a call said that works the summary out afresh: its number, the state, and the words w of the table as it returns
---
--- Assumes nothing.
 use Rattle.std.specs.Prelude.{Bool, true, false, List, ℕ}
 use Rattle.by_value.specs.declared.FreshAnswer.{FreshAnswer}
 use Rattle.by_value.specs.declared.FreshAnswer.TheVariants.{Done, NotSound}

@@ -9,8 +9,6 @@
 --   opened_with P M w s        an opening: accepted, it sets every number to 0
 --   allocated_with sp t z w s, released_with sp a z w s, resized_with sp a z way m w s  the calls on a table; extended_with, shortened_with
 --   freshened sp w s           the summary worked out afresh, the signed number 0; 2, where state and table are not sound
---
--- Assumes nothing.
 use Rattle.std.specs.Prelude.{Bool, cond, not, List, ◌≡◌, ℕ, eqb, pos}
 use Rattle.by_value.specs.Told.{Told, told}
 use Rattle.refusals.specs.AnswerNumbers.{not_sound}

@@ -2,7 +2,6 @@
 --
 -- In this order: a table with one more live piece is determined by it; live pieces of what the rules write; what was chosen; the large rule at
 -- the place that was chosen, for any grant; a large and a small request; `allocated_chain`.
---
 use Prim.Native.Nat.{ℕ, suc, ◌+◌, ◌≤◌, ◌<◌}
 use mathlib.Core.Bool.{true}
 use mathlib.Core.List.{List, [], ◌∷◌, ◌++◌, append-nil, append_assoc}

@@ -2,7 +2,6 @@
 --
 -- In this order: one entry is replaced, or entries come behind the last; bytes that the large rule gives (Grant), and the remainder behind
 -- them; the large rule in a free large entry and at the end; bytes from the start of a free entry on, and a small piece there.
---
 use Prim.Native.Nat.{ℕ, suc, ◌+◌, ◌-◌, ◌≤◌, ◌<◌}
 use mathlib.Core.List.{List, [], ◌∷◌, ◌++◌, append-nil, append_assoc, cons≢nil, append-ne-nil_of_right_ne-nil}
 use mathlib.Core.Path.{◌≡◌, refl, ap}

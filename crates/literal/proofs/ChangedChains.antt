@@ -2,7 +2,6 @@
 --
 -- In this order: the same entry in another place; what may follow what; the entries before a place, the nearest
 -- first (Upto), and how they join the entries from there on; live pieces; `file_of_chain`.
---
 use Prim.Native.Nat.{ℕ, ◌+◌, ◌<◌}
 use mathlib.Core.List.{List, [], ◌∷◌, ◌++◌, append-nil, reverse, reverse_aux, reverse_aux-eq, cons≢nil}
 use mathlib.Core.Path.{◌≡◌, sym, ap, ◌∙◌}

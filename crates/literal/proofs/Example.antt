@@ -9,7 +9,6 @@
 --   step_twelve       a released large piece at the end, and the two whole pages that it leaves, are cut
 --   cut_merges        the cut part of a shortened large piece and kind 6 behind it are one entry
 --   at_the_end        an extended large piece at the end grows the file by two pages for 700 bytes; the rest of them is kind 6
---
 use mathlib.Core.Path.{◌≡◌, refl}
 use mathlib.Core.List.{List, [], ◌∷◌, ◌++◌}
 use Prim.Native.Nat.{ℕ}

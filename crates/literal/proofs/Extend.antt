@@ -2,7 +2,6 @@
 --
 -- In this order: the longer piece may stand where it stood; it takes bytes of the free entry behind it (Takes); it grows the file; what the
 -- stated room says of the entries behind it; `extended_chain`.
---
 use Prim.Native.Nat.{ℕ, ◌+◌, ◌≤◌, ◌<◌}
 use mathlib.Core.Bool.{true}
 use mathlib.Core.List.{List, [], ◌∷◌, ◌++◌, append-nil, reverse_aux, Memᴰ, cons≢nil}

@@ -2,7 +2,6 @@
 --
 -- In this order: the test of a merge; beside what a free entry may stand; what is known of the freed entry (Open); it merges with the
 -- neighbour before it and behind it (Half, Merged); its page is emptied (Settled).
---
 use Prim.Native.Nat.{ℕ, ◌+◌, ◌≤◌, ◌<◌}
 use mathlib.Core.Bool.{Bool, true, false, cond, not, ◌&&◌, ◌||◌}
 use mathlib.Core.List.{List, [], ◌∷◌, reverse_aux}

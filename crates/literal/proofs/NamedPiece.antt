@@ -5,7 +5,6 @@
 --   among_behind    the entries behind it are entries of the table
 --   removed         the live pieces without the named one are those around it
 --   resized         the live pieces with the named one q bytes long have it between the same others
---
 use Prim.Native.Nat.{ℕ, ◌+◌, ◌<◌}
 use mathlib.Core.Bool.{Bool, true, false, not, ◌&&◌}
 use mathlib.Core.List.{List, [], ◌∷◌, ◌++◌, reverse, reverse_aux, Memᴰ}

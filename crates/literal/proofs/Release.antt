@@ -2,7 +2,6 @@
 --
 -- In this order: the cut at the end of the file; the freed entry put back between its neighbours; `freed_at_lem`, a piece that becomes free, of
 -- which it is known what a release or a shortening knows (Open); the named piece; `released_chain`.
---
 use Prim.Native.Nat.{ℕ, ◌+◌, ◌-◌, ◌*◌, ◌≤◌, ◌<◌}
 use mathlib.Core.Bool.{Bool, true, false, cond, not, ◌&&◌}
 use mathlib.Core.List.{List, [], append-nil, reverse_aux, Memᴰ, cons≢nil}

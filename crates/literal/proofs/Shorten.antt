@@ -1,7 +1,6 @@
 -- Shortening is taking bytes from a live piece: the statement `Shortening` of specs/Statements.antt, over chains.
 --
 -- In this order: what remains is a piece where it stood; the cut part becomes free behind it, as in a release; `shortened_chain`.
---
 use Prim.Native.Nat.{ℕ, ◌+◌, ◌-◌, ◌≤◌, ◌<◌}
 use mathlib.Core.Bool.{true}
 use mathlib.Core.List.{List, ◌∷◌, reverse_aux, Memᴰ}

@@ -1,6 +1,5 @@
 -- The proofs of the statements in specs/Statements.antt, each under its name in small letters: a sound table is a chain, and of chains they are
 -- proved in Allocate.antt, Release.antt, Extend.antt and Shorten.antt.
---
 use Rattle.pages.proofs.PageLaws.{page_pos}
 use Rattle.table.proofs.Theorems.{sound_chain}
 use Rattle.literal.specs.Statements.{Allocating, Releasing, Extending, Shortening}

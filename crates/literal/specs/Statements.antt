@@ -8,7 +8,6 @@
 --   Extending           of a sound table: extending a live piece with the stated room behind it is to give it its new size, then to fill
 --   Shortening          of a sound table: shortening a live piece, by a byte or more, of which enough remains is the same
 --   AllocatingIn, ReleasingIn, ExtendingIn, ShorteningIn   the same of given entries
---
 use Rattle.std.specs.Prelude.{◌≡◌, true, ℕ, ◌+◌, ◌-◌, ◌≤◌, ◌<◌}
 use mathlib.Core.List.{List, Memᴰ}
 use Rattle.pieces.specs.declared.Class.{Class}
