@@ -6,8 +6,6 @@
 --   tells_one         two tests of one thing say the same
 --   not_told          a test of what does not hold
 --   refusal_same, same_refusal     an answer is this refusal exactly when the test says so
---
--- Assumes nothing.
 use Prim.Native.Nat.{ℕ, zero, suc, ◌≤◌, ◌<◌}
 use mathlib.Core.Bool.{Bool, true, false, false≢true}
 use mathlib.Core.List.{List, [], ◌∷◌}

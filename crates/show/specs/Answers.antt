@@ -2,8 +2,6 @@
 --
 --   of_number n a   what a call answers by document 01's number n: a where it is accepted, else the refusal
 --   sameb r t       whether two answers are of one case, with one number
---
--- Assumes nothing.
 use Rattle.std.specs.Prelude.{Bool, true, false, cond, ℕ, eqb}
 use Rattle.show.specs.declared.answer.Answer.{Answer}
 use Rattle.show.specs.declared.answer.Answer.TheVariants.{At, Sections, Done, Refused}

@@ -5,8 +5,6 @@
 --   no_claims         no claim
 --   counted t held    one claim more, and one failure more where it does not hold
 --   Tells b A         b is true exactly when A holds
---
--- Assumes nothing.
 use Rattle.std.specs.Prelude.{◌≡◌, Bool, true, cond, ℕ, ◌+◌, ltb}
 use Rattle.show.specs.declared.claim.Tally.{Tally}
 

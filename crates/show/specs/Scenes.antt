@@ -15,8 +15,6 @@
 --   opened_by_default     the default opening over all of them; opened_over P M w any opening over all words w
 --   RefusedAs s c n       the call c is refused with n, and leaves the scene s
 --   after_step_five, after_step_twelve  the words of document 01's run
---
--- Assumes nothing.
 use Rattle.std.specs.Prelude.{◌≡◌, cond, List, [], ◌∷◌, ◌++◌, ℕ, ◌*◌, ltb, take, drop, replicate}
 use Rattle.call.specs.Answered.{answered}
 use Rattle.call.specs.declared.Call.{Call}

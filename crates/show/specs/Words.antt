@@ -1,8 +1,6 @@
 -- Two lists of words, compared word by word.
 --
 --   agreed v w      the index of the first word that differs; the length of the shorter one, where there is none
---
--- Assumes nothing.
 use Rattle.std.specs.Prelude.{cond, List, [], ◌∷◌, ℕ, ◌+◌, eqb}
 
 unfoldable pub agreed : List ℕ → List ℕ → ℕ
