@@ -3,8 +3,6 @@
 --   blocks_none, blocks_next    no bytes have no block; some have one, and those of the bytes behind it
 --   Left j w part i at v        the blocks of `part` from the place `at` on, which i with the words v is to see, are left of those that j with w was to see
 --   left_start, left_next, left_end   all of them, behind one more, none
---
--- Assumes nothing.
 use Prim.Native.Nat.{ℕ, suc, ◌+◌, ◌-◌, ◌/◌, ◌≤◌, ◌<◌, min}
 use mathlib.Core.List.{List, [], ◌∷◌, ◌++◌}
 use mathlib.Core.Path.{◌≡◌, refl, sym, ap, ◌∙◌}

@@ -8,8 +8,6 @@
 --   records_room              the counts stay far below 2^64
 --   after_short, after_full   a good block
 --   ends_none, ends_agreed, ends_settled   the judgement where nothing follows
---
--- Assumes nothing.
 use Prim.Native.Nat.{ℕ, suc, ◌+◌, ◌^◌, ◌≤◌, ◌<◌}
 use mathlib.Core.Bool.{Bool, true, false, cond, not, ◌||◌}
 use mathlib.Core.List.{List, [], ◌∷◌}
