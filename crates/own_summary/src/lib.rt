@@ -1,7 +1,5 @@
 // The calls of `summary` for whoever keeps the summary as a value, as a program does: each lends a local summary to one call, and hands it back
-// beside the answer. The parameters and results are plain here, so that a program that calls these needs no proof for a struct behind `&mut`.
-//
-// All bodies have one shape, and one law proves them all (proofs/Own.antt): a body stays word for word as it is.
+// beside the answer. The parameters and results are plain here. All bodies have one shape, and need no proof file.
 #![tactic(auto)]
 
 ghost use Rattle.std.specs.Prelude.{◌≡◌};

@@ -1,9 +1,7 @@
 // The calls that keep a summary: each takes the summary lent by `&mut`, as the customer asked. The work is done by the function of the same name
 // in `by_value`, which takes the summary by value and hands back the answer, whether the call changes the summary, and the summary. So each
 // function here is thin: it copies the summary out, makes the call, writes the summary back where the call counted, and hands the answer back.
-// A refused call writes no number of the summary.
-//
-// All bodies have one shape, and one law proves them all (proofs/Thin.antt): a body stays word for word as it is.
+// A refused call writes no number of the summary. All bodies have one shape, and need no proof file.
 #![tactic(auto)]
 
 ghost use Rattle.std.specs.Prelude.{◌≡◌};
