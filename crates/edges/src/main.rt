@@ -2,13 +2,13 @@
 // each refused call every lent word and the state are compared with what they were.
 #![tactic(auto)]
 
+mod asking;
 mod cases;
 mod damage;
 mod full;
 mod giving;
 mod listing;
 mod opening;
-mod requests;
 mod scenes;
 mod thousand;
 mod unsound;
@@ -21,7 +21,7 @@ fn main(rt: HostRuntime) {
     say_line(stdout, b"opening");
     let t = opening::all(stdout, Tally::none());
     say_line(stdout, b"requests");
-    let t = requests::all(stdout, t);
+    let t = asking::all(stdout, t);
     say_line(stdout, b"release, extend, shorten");
     let t = thousand::all(stdout, giving::all(stdout, t));
     say_line(stdout, b"full tables");

@@ -4,8 +4,8 @@ ghost use Rattle.filespace.specs.Lent.{line_bytes, table_words, Within};
 
 use crate::calls::Call;
 use crate::carry::Run;
-use crate::summary::TOTALS;
-use crate::{TABLE_WORDS, calls, give, info, summary};
+use crate::run_summary::TOTALS;
+use crate::{TABLE_WORDS, calls, give, info, run_summary};
 use figures::numbers::Number;
 use figures::signed::Signed;
 use say::{map, report, sheet, tables};
@@ -123,7 +123,7 @@ fn answer_moved(stdout: Stdout, run: Run, totals: &[u64; TOTALS], line: &[u8], f
     let end = word.to;
     match figures::signed::signed_of(&line[start..end]) {
         Signed::Is(moved) => {
-            return summary::set(stdout, run, totals, moved);
+            return run_summary::set(stdout, run, totals, moved);
         }
         Signed::TooLarge => report::too_large(stdout, run.line),
         Signed::NoNumber => report::no_number(stdout, run.line),
@@ -209,7 +209,7 @@ pub fn answer(stdout: Stdout, run: Run, line: &[u8], table: &mut [u64; TABLE_WOR
     }
     match call {
         Call::Summary => answer_summary(stdout, run, line, end),
-        Call::Fresh => summary::fresh(stdout, run, table),
+        Call::Fresh => run_summary::fresh(stdout, run, table),
         _ => {
             look(stdout, run, call, line, end, table);
             run

@@ -8,7 +8,7 @@ mod calls;
 mod carry;
 mod give;
 mod info;
-mod summary;
+mod run_summary;
 
 ghost use Rattle.std.specs.Prelude.{◌≡◌, ◌≤◌, length};
 ghost use Rattle.filespace.specs.Lent.{Carried, line_bytes, table_words};

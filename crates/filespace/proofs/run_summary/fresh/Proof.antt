@@ -1,8 +1,8 @@
--- `filespace::summary::fresh` is safe and ends, and keeps its contract: the lent part is no longer than the slice.
+-- `filespace::run_summary::fresh` is safe and ends, and keeps its contract: the lent part is no longer than the slice.
 -- Assumes nothing.
 use Rattle.std.proofs.Common.{sym, length-take-le, rules}
-use Rattle.filespace.proofs.summary.fresh.Statement.{statement}
-use Rattle.filespace.proofs.summary.fresh.Tie as tie
+use Rattle.filespace.proofs.run_summary.fresh.Statement.{statement}
+use Rattle.filespace.proofs.run_summary.fresh.Tie as tie
 
 slice-aggregate-fresh : tie.Need-slice-aggregate-fresh
 slice-aggregate-fresh c = sym (length-take-le _ _ (search rules))
