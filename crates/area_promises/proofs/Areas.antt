@@ -1,8 +1,6 @@
 -- The proofs of specs/Areas.antt.
 --
 -- In this order: the two ways of what a call leaves; the statements on single calls; runs; releases in any order.
---
--- Assumes nothing.
 use Prim.Native.Nat.{ℕ, ◌≤◌}
 use mathlib.Core.Bool.{Bool, true, false}
 use mathlib.Core.List.{List, [], ◌∷◌, Memᴰ, Permᴰ}
@@ -251,6 +249,7 @@ area_runs cs b on h = alike cs b on ((area_lengths (length b)).0 h)
 
 releases_on : (ns : List Name) (c : Call) → Memᴰ c (releases_of ns) → OnSpace c
 unfolding releases_of
+releases_on [] c x = elim x [ ]
 releases_on (n ∷ ns) c (Memᴰ.head e) = subst OnSpace (sym e) releasing
 releases_on (n ∷ ns) c (Memᴰ.tail i) = releases_on ns c i
 

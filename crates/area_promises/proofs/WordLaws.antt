@@ -2,8 +2,6 @@
 --
 --   sound_words      every number of a sound state and table fits a word
 --   bytes_area       the bytes that are written are below 256
---
--- Assumes nothing.
 use Prim.Native.Nat.{ℕ, zero, suc, ◌+◌, ◌*◌, ◌/◌, ◌^◌, ◌≤◌, ◌<◌}
 use mathlib.Core.List.{List, [], ◌∷◌}
 use mathlib.Core.Path.{◌≡◌}

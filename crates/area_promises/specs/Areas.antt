@@ -15,8 +15,6 @@
 --   wrong_length c  how a call c refuses bytes that are no area
 --   called_in c b   what the call c leaves in the area b
 --   RanIn, ran_in cs b    what the calls cs leave, one after the other: the refusal number of each, and the bytes after the last
---
--- Assumes nothing.
 use Rattle.std.specs.Prelude.{ℕ, ◌≤◌, ◌<◌, ◌≡◌, length, take, drop, replicate}
 use mathlib.Core.List.{List, [], ◌∷◌, Memᴰ, Permᴰ}
 use Rattle.area_bytes.specs.Area.{AreaLength, state_in, words_in, AreaLengths, AreaRead, AreaWritten}
