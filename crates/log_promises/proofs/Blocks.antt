@@ -9,8 +9,6 @@
 --                       first of them, from the number; check-written of its check
 --   its_block           so is the block; its-fill, its records fill one
 --   blocks              the statement
---
--- Assumes nothing.
 use Prim.Native.Nat.{ℕ, zero, suc, ◌+◌, ◌-◌, ◌*◌, ◌≤◌}
 use mathlib.Core.Bool.{Bool, true, false}
 use mathlib.Core.List.{List, [], ◌∷◌, ◌++◌, append-nil}

@@ -2,8 +2,6 @@
 --
 --   blocks_append    bytes of whole blocks, and bytes behind them
 --   log_cut          the statement
---
--- Assumes nothing.
 use Prim.Native.Nat.{ℕ, zero, suc, ◌*◌, ◌≤◌, ◌<◌}
 use mathlib.Core.List.{List, [], ◌∷◌, ◌++◌, Memᴰ}
 use mathlib.Core.Path.{◌≡◌, refl, ◌∙◌}

@@ -8,7 +8,7 @@
 --   damaged_some, damaged_judged, differs_judged, agrees_judged                  what is so is what it is judged
 --   log_damaged, log_differs, log_agrees                                   the statements
 --
--- Not here: the judgement by two numbers (JudgingLaws). Assumes nothing.
+-- Not here: the judgement by two numbers (JudgingLaws).
 use Prim.Native.Nat.{ℕ, zero, suc, ◌+◌, ◌-◌, ◌≤◌, ◌<◌, min}
 use mathlib.Core.Bool.{Bool, true, false, cond}
 use mathlib.Core.List.{List, [], ◌∷◌, ◌++◌, append_assoc}

@@ -9,7 +9,7 @@
 --   said_here, said_on      one block more in front: one of its records does not agree; all of them agree
 --   judged_next, judged_is  a log that has a block is judged so
 --
--- Not here: laws of played records (PlayedLaws). Assumes nothing.
+-- Not here: laws of played records (PlayedLaws).
 use Prim.Native.Nat.{ℕ, suc, ◌+◌, ◌≤◌, ◌<◌}
 use mathlib.Core.Bool.{Bool, true, false, cond}
 use mathlib.Core.List.{List, [], ◌∷◌, ◌++◌}

@@ -9,8 +9,6 @@
 --   refused_state            a refused opening leaves nowhere
 --   nowhere_answered, nowhere_address   there every call is refused 2, and an allocate answers the undefined address
 --   log_refused_open             the statement
---
--- Assumes nothing.
 use Prim.Native.Nat.{ℕ, ◌*◌, ◌≤◌}
 use mathlib.Core.Bool.{Bool, true, false}
 use mathlib.Core.List.{List}

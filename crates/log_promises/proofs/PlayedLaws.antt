@@ -10,7 +10,7 @@
 --   left_append           what two lists of records leave
 --   agreed_full, agreed_front   how many of two lists agree, where all of the first do; how many of the first, by how many of both
 --
--- Not here: laws of blocks and of the judgement (Judging). Assumes nothing.
+-- Not here: laws of blocks and of the judgement (Judging).
 use Prim.Native.Nat.{ℕ, zero, suc, ◌+◌, ◌≤◌, ◌<◌, min}
 use mathlib.Core.Bool.{Bool, true, false, cond}
 use mathlib.Core.List.{List, [], ◌∷◌, ◌++◌}

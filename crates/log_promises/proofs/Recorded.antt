@@ -6,8 +6,6 @@
 --   goods_written           so all blocks that are written are good, and have the records rs; length-blocks, they are m
 --   log_judged              the blocks of records that are kept and agree
 --   log_recorded            the statement
---
--- Assumes nothing.
 use Prim.Native.Nat.{ℕ, zero, suc, ◌+◌, ◌-◌, ◌*◌, ◌/◌, ◌^◌, ◌≤◌, ◌<◌}
 use mathlib.Core.Bool.{Bool, true, false, ◌||◌}
 use mathlib.Core.List.{List, [], ◌∷◌}

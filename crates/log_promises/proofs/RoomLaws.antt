@@ -8,7 +8,7 @@
 --   AllRecordable cs              each of the calls cs takes a state, and has room in a record
 --   run_kept, opening_kept        the records of a run fit and keep the rules
 --
--- A call is accepted of a sound state and table alone, so no run has to be followed for the addresses. Assumes nothing.
+-- A call is accepted of a sound state and table alone, so no run has to be followed for the addresses.
 use Prim.Native.Nat.{ℕ, ◌+◌, ◌<◌}
 use mathlib.Core.Bool.{Bool, true, false, ◌&&◌}
 use mathlib.Core.List.{List, [], ◌∷◌, Memᴰ}
@@ -43,6 +43,7 @@ bytesb (k ∷ ks) = ltb k byte_values && bytesb ks
 byte_among : {k : ℕ} (ks : List ℕ) → bytesb ks ≡ true → Memᴰ k ks → k < byte_values
 byte_among (n ∷ ks) e (Memᴰ.head f) = rw f (ltb-true n byte_values (and_left _ _ e))
 byte_among (n ∷ ks) e (Memᴰ.tail h) = byte_among ks (and_right (ltb n byte_values) _ e) h
+byte_among {k = k} [] e x'' = elim x'' [ ]
 
 refusals_fit : (c : Call) → bytesb (refusals_of c) ≡ true
 refusals_fit (opens P M) = refl

@@ -7,11 +7,8 @@
 --   file_of sp w          the file of the state sp and the words w; left_file cs sp w, the one that the calls cs leave
 --   heard_call_lem, run_agrees          the record of a call is played as that call, and those of a run agree
 --   nowhere_called, nowhere_answer, nowhere_agrees   after a refused opening the words of the table count nothing
---   state_next            the state that a run leaves, by what its first call leaves
 --   opening_agrees        the records of a run from its opening on agree, and leave the state that the run leaves
 --   length_run            there is a record for each call
---
--- Assumes nothing.
 use Prim.Native.Nat.{ℕ, suc, ◌*◌}
 use mathlib.Core.Bool.{true}
 use mathlib.Core.List.{List, [], ◌∷◌, Memᴰ}
@@ -99,11 +96,6 @@ nowhere_answer w v releasing = refl
 nowhere_answer w v extending = refl
 nowhere_answer w v shortening = refl
 
-state_next : {o : Outcome} (c : Call) (cs : List Call) (sp : Space) (w : List ℕ) → called c sp w ≡ o
-    → (ran (c ∷ cs) sp w).state ≡ (ran cs o.state o.words).state
-unfolding ran
-state_next c cs sp w e = ap (λ (o : Outcome). (ran cs o.state o.words).state) e
-
 nowhere_agrees : (C : ℕ) (cs : List Call) (w v : List ℕ) → ((c : Call) → Memᴰ c cs → OnSpace c)
     → Agreeing (file_of nowhere v) (records_of C cs nowhere w) (file_of (ran cs nowhere w).state v)
 unfolding records_of ran
@@ -112,7 +104,7 @@ nowhere_agrees C (c ∷ cs) w v on =
     let here = on c (Memᴰ.head refl) in
     let told : Outcome → Heard = λ o. heard_of (record { outcome = o; answer = answer_to c nowhere v }) in
     let is = nowhere_called w here in
-    rw (is, nowhere_answer w v here, state_next c cs nowhere w is)
+    rw (is, nowhere_answer w v here)
     (agree_more (heard_call_lem C _ _ nowhere v here ∙ ap told (nowhere_called v here)) (recorded_agrees C c (told (refused not_sound nowhere v)))
     (nowhere_agrees C cs w v (λ d i. on d (Memᴰ.tail i))))
 
@@ -128,7 +120,7 @@ opening_agrees C P M cs sp w l on = go (alike_blank C P M w l)
     go (done e) = (_, agree_more (ap told (sym e)) (recorded_agrees C (opens P M) (told (opened P M w))) (run_agrees C cs _ _ on))
     go (not_done e f) =
         let agrees = recorded_agrees C (opens P M) (told (refused out_of_range nowhere (blank C))) in
-        (blank C, rw (e, state_next (opens P M) cs sp w e) (agree_more (ap told f) agrees (nowhere_agrees C cs w (blank C) on)))
+        (blank C, rw e (agree_more (ap told f) agrees (nowhere_agrees C cs w (blank C) on)))
 
 pub length_run : (C : ℕ) (cs : List Call) (sp : Space) (w : List ℕ) → length (records_of C cs sp w) ≡ length cs
 unfolding records_of

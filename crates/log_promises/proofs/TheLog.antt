@@ -3,8 +3,6 @@
 --   Each cs             each of the calls cs takes a state, and has room in a record; each_all, of a call among them
 --   twelve_each         so it is of the calls of the twelve steps
 --   log_of_the_run             the statement
---
--- Assumes nothing.
 use mathlib.Core.List.Memᴰ
 use mathlib.Core.List.{List, [], ◌∷◌}
 use mathlib.Core.Path.{sym, ap, ◌∙◌, subst}
@@ -25,6 +23,7 @@ data Each : List Call → Type 0 where
 each_all : {cs : List Call} → Each cs → AllRecordable cs
 each_all (each_more on r h) c (Memᴰ.head e) = subst (λ (x : Call). OnSpace x × Recordable x) (sym e) (on, r)
 each_all (each_more on r h) c (Memᴰ.tail i) = each_all h c i
+each_all each_none c x3 = elim x3 [ ]
 
 twelve_each : Each (calls_of twelve_steps)
 unfolding calls_of

@@ -11,7 +11,7 @@
 --   length-block, number_read, count-read, block_read, block-good
 --                           a block that records fill has 512 bytes, its number, its count and its records are read back, and it keeps the rules
 --
--- Not here: laws of numbers in bytes (little/proofs/LittleLaws.antt) and of the sums (log_check/proofs/CheckLaws.antt). Assumes nothing.
+-- Not here: laws of numbers in bytes (little/proofs/LittleLaws.antt) and of the sums (log_check/proofs/CheckLaws.antt).
 use Prim.Native.Nat.{ℕ, zero, suc, ◌+◌, ◌-◌, ◌*◌, ◌^◌, ◌≤◌, ◌<◌}
 use mathlib.Core.Bool.{Bool, true, false}
 use mathlib.Core.List.{List, [], ◌∷◌, ◌++◌, append-nil, append_assoc}

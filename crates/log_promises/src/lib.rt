@@ -1,3 +1,2 @@
 // What request E6 says of a log and of its judgement, with its proofs. No code.
 #![tactic(auto)]
-
