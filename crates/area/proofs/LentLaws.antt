@@ -2,10 +2,8 @@
 --
 --   head_within                   the head lies within the area
 --   lent_within, lent_long, lent  the words are there, they are so many, and they fit the area
---
--- Assumes nothing.
 use Prim.Native.Nat.{ℕ, ◌*◌, ◌≤◌}
-use mathlib.Core.Bool.{Bool, true, false, not}
+use mathlib.Core.Bool.{Bool, true}
 use mathlib.Core.List.{List}
 use mathlib.Core.Path.{◌≡◌, sym}
 use native.Mathlib.Omega.{arith}
@@ -19,7 +17,7 @@ use Rattle.pieces.specs.Words.{entry_words}
 use Rattle.table.specs.Sound.{largest_capacity}
 
 -- of the local words ws the first n, as many as the area b has; r is what the test of b's length answered
-module _ (b ws : List ℕ) (room : largest_capacity * entry_words ≡ length ws) {r : Bool} (is : r ≡ area_lengthb (length b)) (passed : not r ≡ false) where
+module _ (b ws : List ℕ) (room : largest_capacity * entry_words ≡ length ws) {r : Bool} (is : r ≡ area_lengthb (length b)) (passed : r ≡ true) where
   form : area_lengthb (length b) ≡ true
   form = passes is passed
 

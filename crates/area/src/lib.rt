@@ -1,5 +1,5 @@
 // The calls for a program in C (include/filespace.h), over one area of bytes that it keeps: the state, and behind it the table. The answer is the
-// number of document 01 and the requests, 0 for done. A refused call writes no byte.
+// number of document 01 and the requests, 0 for done. A refused call writes no byte. `area_c` exports them.
 //
 // An opening, and one function for all that can be asked of an open file, look at the area's length, and lend a local table to their twins in
 // `area_calls`. These decide (`space`) on the state and the words that the bytes are, and only then write: the state, and the entries from the first
@@ -29,8 +29,7 @@ fn zero_words() -> [u64; MOST_WORDS]
     [0; MOST_WORDS]
 }
 
-#[unsafe(no_mangle)]
-pub extern "C" fn filespace_open(page: u64, limit: u64, area: &mut [u8]) -> u64
+pub fn filespace_open(page: u64, limit: u64, area: &mut [u8]) -> u64
     ensures { area_said result area.new ≡ opened_in page limit area.old }
 {
     let n = area.len();
@@ -59,8 +58,7 @@ fn call(area: &mut [u8], asked: Asked) -> Told
 }
 
 // The address goes to the first 8 bytes of the result.
-#[unsafe(no_mangle)]
-pub extern "C" fn filespace_allocate(area: &mut [u8], code: u64, size: u64, res: &mut [u8]) -> u64
+pub fn filespace_allocate(area: &mut [u8], code: u64, size: u64, res: &mut [u8]) -> u64
     ensures { both_said result area.new res.new ≡ allocated_in code size area.old res.old }
 {
     if res.len() < WORD_BYTES {
@@ -73,24 +71,21 @@ pub extern "C" fn filespace_allocate(area: &mut [u8], code: u64, size: u64, res:
     told.number
 }
 
-#[unsafe(no_mangle)]
-pub extern "C" fn filespace_release(area: &mut [u8], address: u64, size: u64) -> u64
+pub fn filespace_release(area: &mut [u8], address: u64, size: u64) -> u64
     ensures { area_said result area.new ≡ released_in address size area.old }
 {
     let told = call(area, Asked::Release(address, size));
     told.number
 }
 
-#[unsafe(no_mangle)]
-pub extern "C" fn filespace_extend(area: &mut [u8], address: u64, size: u64, by: u64) -> u64
+pub fn filespace_extend(area: &mut [u8], address: u64, size: u64, by: u64) -> u64
     ensures { area_said result area.new ≡ extended_in address size by area.old }
 {
     let told = call(area, Asked::Resize(address, size, Way::Longer, by));
     told.number
 }
 
-#[unsafe(no_mangle)]
-pub extern "C" fn filespace_shorten(area: &mut [u8], address: u64, size: u64, by: u64) -> u64
+pub fn filespace_shorten(area: &mut [u8], address: u64, size: u64, by: u64) -> u64
     ensures { area_said result area.new ≡ shortened_in address size by area.old }
 {
     let told = call(area, Asked::Resize(address, size, Way::Shorter, by));
