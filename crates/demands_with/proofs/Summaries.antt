@@ -5,8 +5,6 @@
 --   run_tied             a run with a summary that agrees is the run without one, and the summary agrees in the end
 --   runs_with, any_order_with, two_orders_with   the statements on runs
 --   one_result_with      the statement on results
---
--- Assumes nothing.
 use Prim.Native.Nat.{ℕ}
 use mathlib.Core.Bool.{Bool, true, false, cond}
 use mathlib.Core.List.{List, [], ◌∷◌, Memᴰ}
@@ -268,6 +266,7 @@ releasing_all : (ns : List Name) (c : Call) → Memᴰ c (releases_of ns) → On
 unfolding releases_of
 releasing_all (n ∷ ns) c (Memᴰ.head e) = rw e releasing
 releasing_all (n ∷ ns) c (Memᴰ.tail i) = releasing_all ns c i
+releasing_all [] c x' = elim x' [ ]
 
 pub any_order_with : AnyOrderWith
 any_order_with =

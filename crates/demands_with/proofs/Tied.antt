@@ -3,8 +3,6 @@
 --   agrees_or                a summary agrees or does not
 --   called_yes, called_no    a call on a space where it does, and where it does not
 --   tied                     the statement
---
--- Assumes nothing.
 use Prim.Native.Nat.{ℕ}
 use mathlib.Core.Bool.{Bool, true, false}
 use mathlib.Core.List.{List}

@@ -22,7 +22,7 @@
 --   UniqueWith said o        one result, one list of words and one summary say o
 --
 -- `Agrees`, that but for the signed number a summary is that of the table, is in by_value/specs/With.antt; what the summary of a table is, in
--- totals/specs/Summary.antt, and once more by what each number is, in totals/specs/Described.antt. Assumes nothing.
+-- totals/specs/Summary.antt, and once more by what each number is, in totals/specs/Described.antt.
 use Rattle.std.specs.Prelude.{ℕ, ◌≡◌, pos, length}
 use mathlib.Core.List.{List, [], ◌∷◌, Memᴰ, Permᴰ}
 use Rattle.by_value.specs.Told.{Told, told, fresh_said}
