@@ -2,7 +2,7 @@
 --
 --   blocks_none, blocks_next    no bytes have no block; some have one, and those of the bytes behind it
 --   Left j w part i at v        the blocks of `part` from the place `at` on, which i with the words v is to see, are left of those that j with w was to see
---   left_start, left_next, left_end   all of them, behind one more, none
+--   left_next, left_end        behind one more, none
 use Prim.Native.Nat.{ℕ, suc, ◌+◌, ◌-◌, ◌/◌, ◌≤◌, ◌<◌, min}
 use mathlib.Core.List.{List, [], ◌∷◌, ◌++◌}
 use mathlib.Core.Path.{◌≡◌, refl, sym, ap, ◌∙◌}
@@ -33,9 +33,6 @@ blocks_next bs h =
 pub record Left (j : Judge) (w part : List ℕ) (i : Judge) (at : ℕ) (v : List ℕ) : Type 0 where
   pub meaning : (bs : List (List ℕ)) → means i v (blocks_of (drop at part) ++ bs) ≡ means j w (blocks_of part ++ bs)
   pub fits : Fits i
-
-pub left_start : (j : Judge) (w part : List ℕ) → Fits j → Left j w part j 0 w
-left_start j w part h = record { meaning = λ bs. refl; fits = h }
 
 -- the block at a place up to its end, which is the log's where the block is short
 front : (part : List ℕ) (at end : ℕ) → end ≡ min (at + block_bytes) (length part) → take block_bytes (drop at part) ≡ take (end - at) (drop at part)

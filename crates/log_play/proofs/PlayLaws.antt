@@ -4,36 +4,31 @@
 --   call_allocate .. call_shorten       the call that a record is, by its operation
 --   heard_open, heard_call_lem          what is heard of an open, and of any other record
 --   front_long                          words that were put in front of others, as many as stood there
---   open_heard, call_heard              what is heard over a lent table
+--   call_heard                          what is heard of a call over a lent table
 --   compared_not, compared              the refusal number differs; it does not, and the answer decides
 --   plus i p                            what is played behind i records that agree
---   play_start, play_stops, play_next, play_ends   records that are played: at first, one that does not agree, one that does, none left
+--   play_stops, play_next, play_ends    records that are played: one that does not agree, one that does, none left
 use Prim.Native.Nat.{ℕ, suc, ◌+◌, ◌*◌, ◌≤◌, ◌<◌}
 use mathlib.Core.Bool.{Bool, true, false}
 use mathlib.Core.List.{List, ◌∷◌, ◌++◌}
 use mathlib.Core.Path.{◌≡◌, refl, ap, ◌∙◌}
 use native.Mathlib.Omega.{arith}
 use lib.Dec.{eqb, leb}
-use lib.ListN.{length, take, drop, replicate, length-append, length-drop}
+use lib.ListN.{length, take, drop, length-append, length-drop}
 use lib.Seq.{take_at}
-use Rattle.call.specs.Answered.{unanswered, answered, answer_said}
+use Rattle.call.specs.Answered.{answered, answer_said}
 use Rattle.call.specs.declared.Call.{Call}
 use Rattle.call.specs.declared.Told as call
 use Rattle.call.specs.declared.Call.TheVariants.{Allocate, Release, Extend, Shorten}
-use Rattle.log_blocks.proofs.RecordLaws.{records_left, records_start, records_next, records_end}
+use Rattle.log_blocks.proofs.RecordLaws.{records_left, records_next, records_end}
 use Rattle.log_blocks.specs.Blocks.{records_at}
-use Rattle.log_blocks.specs.Records.{record_bytes, opens, allocates, releases, extends, record_in, records_from}
+use Rattle.log_blocks.specs.Records.{record_bytes, opens, allocates, releases, extends, record_in}
 use Rattle.log_blocks.specs.declared.records.Record.{Record}
 use Rattle.log_play.specs.Lent.{file_in, heard_in}
 use Rattle.log_play.specs.declared.Held.{Held}
 use Rattle.log_play.specs.Playing.{File, words_for, Heard, heard_of, hear_open, call_of, heard, agreesb, Played, played}
 use Rattle.pages.proofs.Numbers.{and-false, passes, fails}
 use Rattle.pieces.specs.Words.{entry_words}
-use Rattle.refusals.specs.AnswerNumbers.{open_number}
-use Rattle.space.specs.Opening.{opened}
-use Rattle.space.specs.Outcomes.{Outcome}
-use Rattle.space.specs.Said.{open_said}
-use Rattle.space.specs.declared.answers.Opened.{Opened}
 use Rattle.table.specs.Sound.{least_capacity, largest_capacity}
 use borrow.Author.Tests.{eq-eqb, ne_eqb, le-leb, lt-leb}
 
@@ -84,12 +79,6 @@ heard_call_lem r f o = rw (ne_eqb r.operation opens o) refl
 pub front_long : (v w : List ℕ) (n : ℕ) → n ≤ length w → length (v ++ drop n w) ≡ length w → length v ≡ n
 front_long v w n h e = omega (arith, h, e, length-append v (drop n w), length-drop n w)
 
-pub open_heard : (said : Record) (r : Opened) (v w : List ℕ) {n k : ℕ} → n ≡ words_for said.address → length v ≡ n
-    → k ≡ open_number r.answer → open_said r v ≡ opened said.size said.change (replicate n 0)
-    → heard_in (record { number = k; answer = 0; file = record { space = r.space; used = n } }) (v ++ w) ≡ hear_open said
-open_heard said r v w {n} e l k o =
-    rw (k, take_at v w n l) (ap (λ (x : Outcome). heard_of (unanswered x)) (rw e at o))
-
 pub call_heard : (said : Record) (h : Held) (u : List ℕ) (t : call.Told) (v w : List ℕ) {c : Call} → (said.operation ≡ opens → ⊥) → c ≡ call_of said
     → length v ≡ h.used → answer_said t v ≡ answered c h.space (take h.used u)
     → heard_in (record { number = t.number; answer = t.answer; file = record { space = t.space; used = h.used } }) (v ++ w)
@@ -118,12 +107,6 @@ stopped i f = record { agreed = i; file = f }
 
 stopped_plus : (i : ℕ) (f : File) → stopped i f ≡ plus i (stopped 0 f)
 stopped_plus i f = let e : i + 0 ≡ i = omega arith in rw e refl
-
-pub play_start : (f : File) (n : ℕ) (b : List ℕ) → plus 0 (played f (records_left n 0 b)) ≡ played f (records_from n (drop records_at b))
-play_start f n b =
-    let rs = records_from n (drop records_at b) in
-    let e : 0 + (played f rs).agreed ≡ (played f rs).agreed = omega arith in
-    rw (records_start n b, e) refl
 
 -- the record i of the block b on the file f: r is what it says, h what is heard, and t whether they agree
 module _ (n i : ℕ) (b : List ℕ) (f : File) (r : Record) (within : i < n) (is : r ≡ record_in (take record_bytes (drop (records_at + i * record_bytes) b)))
