@@ -62,8 +62,8 @@ pub record Signed : Type 0 where
   pub two_orders_with : TwoOrdersWith
   pub one_result_with : OneResultWith
   -- over an area of bytes, as a program in C keeps it, each call is the same call, and so is each run; an area's bytes are its state and table
-  pub area_bytes_lem : AreaBytes
-  pub area_calls_lem : AreaCalls
+  pub area_bytes : AreaBytes
+  pub area_calls : AreaCalls
   pub area_refused : AreaRefused
   pub area_done : AreaDone
   pub area_runs : AreaRuns
@@ -75,7 +75,7 @@ pub record Signed : Type 0 where
   pub log_agrees : LogAgrees
   pub log_refused_open : LogRefusedOpen
   pub log_sums : LogSums
-  pub log_blocks_lem : LogBlocks
+  pub log_blocks : LogBlocks
   pub log_cut : LogCut
   pub log_recorded : LogRecorded
   pub log_of_the_run : LogOfTheRun
