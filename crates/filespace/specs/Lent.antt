@@ -6,8 +6,6 @@
 --   Carried r               a run's table is no longer than the lent one, and its line has room
 --   Within r n              numbers that were read end within n bytes
 --   WriteFits args          the words of `write` fit their fields and the lent bytes
---
--- Assumes nothing.
 use Rattle.std.specs.Prelude.{ℕ, ◌*◌, ◌≤◌, List, slice_index_or}
 use Rattle.pieces.specs.Words.{entry_words}
 use Rattle.filespace.specs.declared.answer.Numbers.{Numbers}
