@@ -3,8 +3,6 @@
 --   buffer_bytes    the bytes of the buffer: whole blocks
 --   Carried r       the judge fits, and the buffer has room
 --   Within r n m    what was read behind n bytes is within m
---
--- Assumes nothing.
 use Rattle.std.specs.Prelude.{ℕ, ◌*◌, ◌≤◌, ◌<◌}
 use Rattle.log_check.specs.Check.{block_bytes}
 use Rattle.log_judge.specs.Carried.{Fits}
