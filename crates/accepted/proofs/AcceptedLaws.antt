@@ -34,6 +34,7 @@ use Rattle.pieces.specs.declared.Piece.{Piece}
 use Rattle.pieces.specs.declared.Status.TheVariants.{Live}
 use Rattle.pieces.specs.declared.Status.{Status}
 use Rattle.refusals.specs.AnswerNumbers.{not_sound, unknown_code, zero_asked, beyond_limit, table_full}
+use Rattle.refusals.specs.declared.NotNamed.{NotNamed}
 use Rattle.refusals.specs.declared.NotResized.TheVariants.{NoRoomBehind, BeyondLimit, TooLittleLeft}
 use Rattle.requests.proofs.RequestLaws.{class_small}
 use Rattle.requests.specs.Requests.{class_for}
@@ -41,17 +42,16 @@ use Rattle.room.specs.Room.{room_behindb, grows_beyondb, remainsb}
 use Rattle.rules.proofs.ChangeLaws.{insert_good, resize_good}
 use Rattle.rules.proofs.RemoveLaws.{remove_good}
 use Rattle.rules.specs.Editing.{insert, remove, resize}
-use Rattle.space.proofs.GiveLaws.{not_named_some, found_named}
+use Rattle.refusals.specs.NeverZero.{not_named_some}
+use Rattle.space.proofs.GiveLaws.{found_named}
 use Rattle.space.proofs.OutcomeLaws.{is_sound_true, passed, settled_room}
 use Rattle.space.specs.Giving.{name_of, named_in, when_named, naming, released_at, released, entries_behind, new_size, resized_to, resized_at, resized}
 use Rattle.space.specs.Outcomes.{SoundSpace, soundb, entries_of, lives_of, Outcome, refusing, plain, state_of, settled}
 use Rattle.space.specs.Placing.{beyondb, Placed, unplaced, placed_at, placed, allocated}
 use Rattle.space.specs.declared.Space.{Space}
-use Rattle.space.specs.declared.give.Named.{Named}
-use Rattle.space.specs.declared.give.Named.TheVariants.{At, Not}
-use Rattle.space.specs.declared.give.NewSize.TheVariants.{Bytes, Kept}
 use Rattle.space.specs.declared.give.Way.{Way}
 use Rattle.space.specs.declared.give.Way.TheVariants as way
+use Rattle.std.specs.Prelude.{Result, Ok, Err}
 use Rattle.table.proofs.ChainLaws.{chain_le}
 use Rattle.table.proofs.Theorems.{sound_chain, sound_good}
 use Rattle.table.proofs.TilingLaws.{mem_below}
@@ -92,12 +92,14 @@ pub naming_accepted : (sp : Space) (w : List ℕ) (zero : Bool) (a z : ℕ) (fou
 unfolding naming when_named
 naming_accepted sp w zero a z found e =
     let p = passed_outcome sp w _ not_sound _ (λ q. omega arith) e in
-    rw p.1 (go (is_sound_true sp w (not-false (soundb sp w) p.0)) (named_in sp w zero a z) refl (rw p.1 at e))
+    let e1 = rw p.1 at e in
+    let p1 = passed_outcome sp w _ zero_asked _ (λ q. omega arith) e1 in
+    rw (p.1, p1.1) (go (is_sound_true sp w (not-false (soundb sp w) p.0)) (named_in sp w a z) refl (rw p1.1 at e1))
   where
-    go : SoundSpace sp w → (r : Named) → named_in sp w zero a z ≡ r → (when_named sp w found r).refusal ≡ 0
+    go : SoundSpace sp w → (r : Result (ℕ × Piece) NotNamed) → named_in sp w a z ≡ r → (when_named sp w found r).refusal ≡ 0
         → Found sp w a z found (when_named sp w found r)
-    go s (Not why) q i = absurd (not_named_some why i)
-    go s (At k x) q i = record { place = k; entry = x; at = found_named sp w s zero a z k x (sym q); is = refl }
+    go s (Err why) q i = absurd (not_named_some why i)
+    go s (Ok (k, x)) q i = record { place = k; entry = x; at = found_named sp w s a z k x (sym q); is = refl }
 
 settled_changed : (sp : Space) (w : List ℕ) (ps : List Piece) → Good sp.page ps → end_of sp.page ps ≤ sp.limit → (settled sp w ps).refusal ≡ 0
     → Changed sp w ps (settled sp w ps)
@@ -178,9 +180,9 @@ module _ (sp : Space) (w : List ℕ) (s : SoundSpace sp w) where
     where
       go : (r : Bool) → r ≡ room_behindb sp.page f.named.class (a + z) z m (entries_behind sp w i) → (g : Bool)
           → grows_beyondb sp.page sp.limit (a + z) m (entries_behind sp w i) ≡ g
-          → (resized_to sp a z w (cond (not r) (Kept NoRoomBehind) (cond g (Kept BeyondLimit) (Bytes (z + m))))).refusal ≡ 0
+          → (resized_to sp a z w (cond (not r) (Err NoRoomBehind) (cond g (Err BeyondLimit) (Ok (z + m))))).refusal ≡ 0
           → Changed sp w (resize (name_of a z) (z + m) (lives_of sp w))
-          (resized_to sp a z w (cond (not r) (Kept NoRoomBehind) (cond g (Kept BeyondLimit) (Bytes (z + m)))))
+          (resized_to sp a z w (cond (not r) (Err NoRoomBehind) (cond g (Err BeyondLimit) (Ok (z + m)))))
       go false room g grows q = absurd (omega arith)
       go true room true grows q = absurd (omega arith)
       go true room false grows q = longer_changed a z i x f m (sym room) grows q
@@ -191,8 +193,8 @@ module _ (sp : Space) (w : List ℕ) (s : SoundSpace sp w) where
   shorter_accepted a z k i x f e = go _ (ap (λ (t : Status). remainsb sp.page (class_of t) z k) f.named.live) e
     where
       go : (r : Bool) → r ≡ remainsb sp.page f.named.class z k
-          → (resized_to sp a z w (cond (not r) (Kept TooLittleLeft) (Bytes (z - k)))).refusal ≡ 0
-          → Changed sp w (resize (name_of a z) (z - k) (lives_of sp w)) (resized_to sp a z w (cond (not r) (Kept TooLittleLeft) (Bytes (z - k))))
+          → (resized_to sp a z w (cond (not r) (Err TooLittleLeft) (Ok (z - k)))).refusal ≡ 0
+          → Changed sp w (resize (name_of a z) (z - k) (lives_of sp w)) (resized_to sp a z w (cond (not r) (Err TooLittleLeft) (Ok (z - k))))
       go false left q = absurd (omega arith)
       go true left q = shorter_changed a z i x f k (sym left) q
 

@@ -17,8 +17,8 @@ use borrow.Author.Tests.{eqb-true, eqb-false}
 use Rattle.choose.proofs.BestLaws.{small_place, large_place}
 use Rattle.choose.specs.Choose.{fits_in, best, Best, FitsSmall, FitsLarge}
 use Rattle.choose.specs.Place.{in_large, in_small, as_page, large_place_for, small_place_for, place_for, place_address, at_endb}
-use Rattle.choose.specs.declared.Chosen.TheVariants.{At, Nothing}
-use Rattle.choose.specs.declared.Chosen.{Chosen}
+use Rattle.std.specs.Prelude.{Some, None}
+use Rattle.choose.specs.Choose.{Chosen}
 use Rattle.choose.specs.declared.place.Place.TheVariants.{End}
 use Rattle.choose.specs.declared.place.Place.{Place}
 use Rattle.accepted.specs.Places.{NoneFits, InSection, in_small_entry, in_page, in_large_entry, NoSection}
@@ -63,37 +63,37 @@ module _ (sp : Space) (w : List ℕ) (s : SoundSpace sp w) where
   first_border x = (borders sp.page x.address pos).up_is
 
   large_is : (n : ℕ) (r : Chosen) → Best (FitsLarge sp.page n) (entries_of sp w) r → PlaceFound Large n (in_large sp.page r)
-  large_is n (At i x) h = inside (up sp.page x.address) (in_large_entry refl h (first_border x)) refl refl
-  large_is n Nothing h =
+  large_is n (Some (i, x)) h = inside (up sp.page x.address) (in_large_entry refl h (first_border x)) refl refl
+  large_is n None h =
       outside (record { no_small_entry = λ t. absurd (large_small t refl); no_page = λ t. absurd (large_small t refl); no_large_entry = λ e. h }) refl
 
   page_is : {k : Class} (n : ℕ) → Small k → NoneFits (FitsSmall k n) (entries_of sp w) → (r : Chosen)
       → Best (FitsLarge sp.page sp.page) (entries_of sp w) r → PlaceFound k n (as_page (in_large sp.page r))
-  page_is n t f (At i x) h = inside (up sp.page x.address) (in_page t f h (first_border x)) refl refl
-  page_is n t f Nothing h =
+  page_is n t f (Some (i, x)) h = inside (up sp.page x.address) (in_page t f h (first_border x)) refl refl
+  page_is n t f None h =
       outside (record { no_small_entry = λ u. f; no_page = λ u. h; no_large_entry = λ e. absurd (small_large t e) }) refl
 
   small_is : {k : Class} (n : ℕ) (q : Place) → Small k → (NoneFits (FitsSmall k n) (entries_of sp w) → PlaceFound k n q) → (r : Chosen)
       → Best (FitsSmall k n) (entries_of sp w) r → PlaceFound k n (in_small q r)
-  small_is n q t f (At i x) h = inside x.address (in_small_entry t h refl) refl refl
-  small_is n q t f Nothing h = f h
+  small_is n q t f (Some (i, x)) h = inside x.address (in_small_entry t h refl) refl refl
+  small_is n q t f None h = f h
 
-  best_large : (n : ℕ) → Best (FitsLarge sp.page n) (entries_of sp w) (best (fits_in sp.page Large n) 0 Nothing (entries_of sp w))
+  best_large : (n : ℕ) → Best (FitsLarge sp.page n) (entries_of sp w) (best (fits_in sp.page Large n) 0 None (entries_of sp w))
   best_large n = (large_place sp.page pos n sp.end 0 (entries_of sp w) s.rules.filled s.rules.tiling).is
 
   small_place_found : (k : Class) (n : ℕ) → Small k → PlaceFound k n (small_place_for sp.page k n (entries_of sp w))
   unfolding small_place_for large_place_for
   small_place_found k n t =
       small_is n (as_page (large_place_for sp.page sp.page (entries_of sp w))) t
-      (λ f. page_is n t f (best (fits_in sp.page Large sp.page) 0 Nothing (entries_of sp w)) (best_large sp.page))
-      (best (fits_in sp.page k n) 0 Nothing (entries_of sp w))
+      (λ f. page_is n t f (best (fits_in sp.page Large sp.page) 0 None (entries_of sp w)) (best_large sp.page))
+      (best (fits_in sp.page k n) 0 None (entries_of sp w))
       (small_place sp.page k t n sp.end 0 (entries_of sp w) s.rules.filled s.rules.tiling).is
 
   pub place_found : (k : Class) (n : ℕ) → PlaceFound k n (place_for sp.page k n (entries_of sp w))
   unfolding place_for large_place_for
   place_found SmallMetadata n = small_place_found SmallMetadata n metadata
   place_found SmallRaw n = small_place_found SmallRaw n raw
-  place_found Large n = large_is n (best (fits_in sp.page Large n) 0 Nothing (entries_of sp w)) (best_large n)
+  place_found Large n = large_is n (best (fits_in sp.page Large n) 0 None (entries_of sp w)) (best_large n)
 
   -- ---- a piece fits there
 

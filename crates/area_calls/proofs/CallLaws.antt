@@ -23,7 +23,6 @@ use Rattle.area_calls.specs.Asking.{meant, left_in, address_in, Leads, ToldIn}
 use Rattle.area_calls.specs.Calls.{Left, left_by, area_said, both_said, in_area, opened_in, with_address, allocated_in, Lent, Holds}
 use Rattle.area_calls.specs.declared.Asked.{Asked}
 use Rattle.area_calls.specs.declared.Asked.TheVariants.{Allocate, Release, Resize}
-use Rattle.area_calls.specs.declared.Decision.TheVariants.{Change, Refused}
 use Rattle.area_calls.specs.declared.Told.{Told}
 use Rattle.change.specs.declared.plan.Plan.{Plan}
 use Rattle.little.proofs.LittleLaws.{length_numbers}
@@ -40,7 +39,9 @@ use Rattle.space.specs.Outcomes.{soundb, Outcome, refused}
 use Rattle.space.specs.Placing.{Placed, unplaced, allocated}
 use Rattle.space.specs.Said.{open_said}
 use Rattle.space.specs.declared.Space.{Space}
-use Rattle.space.specs.declared.answers.Opened.{Opened}
+use Rattle.space.specs.declared.answers.Answered.{Answered}
+use Rattle.refusals.specs.declared.OpenRefusal.{OpenRefusal}
+use Rattle.std.specs.Prelude.{Ok, Err}
 use Rattle.table.proofs.Theorems.{count_fits}
 use Rattle.table.specs.Local.{rangesb}
 
@@ -121,7 +122,7 @@ module _ (b : List ℕ) (form : area_lengthb (length b) ≡ true) (sp : Space) (
     address_same : (meant q sp w).address ≡ address_in q b
     address_same = rw form (ap (λ (o : Placed). o.address) same)
 
-    pub told_done : {a : ℕ} {plan : Plan} {c : List ℕ} → Leads sp w (meant q sp w) (Change a plan) → c ≡ left_by (carried sp w plan)
+    pub told_done : {a : ℕ} {plan : Plan} {c : List ℕ} → Leads sp w (meant q sp w) (Ok (a, plan)) → c ≡ left_by (carried sp w plan)
         → ToldIn q b (record { number = 0; address = a }) c
     told_done d e =
         let leads = d.1.leads in
@@ -130,7 +131,7 @@ module _ (b : List ℕ) (form : area_lengthb (length b) ≡ true) (sp : Space) (
           address = d.0 ∙ address_same;
         }
 
-    pub told_refused : {k : ℕ} → Leads sp w (meant q sp w) (Refused k) → ToldIn q b (record { number = k; address = no_address }) b
+    pub told_refused : {k : ℕ} → Leads sp w (meant q sp w) (Err k) → ToldIn q b (record { number = k; address = no_address }) b
     told_refused d =
         record {
           left = left_refused not_sound b (meant q sp w).outcome form (ap (λ (o : Outcome). o.refusal) d.1.leads) d.1.some ∙ left_same;
@@ -159,7 +160,7 @@ opened_same P M k b w v e = go (rangesb P M 0 0 (length w)) refl
     go false f = let g : rangesb P M 0 0 (length v) ≡ false = rw (← e) f in rw (f, g)
 
 -- y is what the opening of the table w answered, with the words v, and r the number of that
-module _ (P M : ℕ) (b w v : List ℕ) (lent : Lent b w) (y : Opened) (said : open_said y v ≡ opened P M w) (r : ℕ) (number : r ≡ open_number y.answer) where
+module _ (P M : ℕ) (b w v : List ℕ) (lent : Lent b w) (y : Answered Unit OpenRefusal) (said : open_said y v ≡ opened P M w) (r : ℕ) (number : r ≡ open_number y.answer) where
   whole : in_area out_of_range b (open_said y v) ≡ opened_in P M b
   whole =
       let n : length w ≡ length (words_in b) = omega (arith, lent.fits, length_numbers word_bytes (table_words (length b)) (drop table_at b)) in

@@ -3,20 +3,16 @@
 #![tactic(auto)]
 
 ghost use Rattle.std.specs.Prelude.{◌≡◌};
-ghost use Rattle.area_calls.specs.Asking.{meant, Leads, ToldIn};
+ghost use Rattle.area_calls.specs.Asking.{meant, Leads, ToldIn, unaddressed};
 ghost use Rattle.area_calls.specs.Calls.{Lent, Holds, area_said, opened_in, left_by};
 ghost use Rattle.settle.specs.Settle.{CarryFits};
 ghost use Rattle.space.specs.Halves.{carried};
 ghost use Rattle.space.specs.Outcomes.{SoundSpace};
 
 use change::plan::Plan;
-use pages::larger;
-use refusals::{
-    DONE, NO_ADDRESS, NOT_SOUND, allocate_number, open_number, release_number, resize_number,
-};
+use refusals::{DONE, NO_ADDRESS, NOT_SOUND, Refusal, number_of};
 use space::Space;
-use space::give::{ReleaseDecision, ResizeDecision, Way};
-use space::place::AllocateDecision;
+use space::give::Way;
 
 // Nothing of the area is read.
 pub fn open(page: u64, limit: u64, area: &mut [u8], table: &mut [u64]) -> u64
@@ -24,8 +20,7 @@ pub fn open(page: u64, limit: u64, area: &mut [u8], table: &mut [u64]) -> u64
     ensures { area_said result area.new ≡ opened_in page limit area.old }
 {
     let opened = Space::open(page, limit, table);
-    let answer = opened.answer;
-    let number = open_number(answer);
+    let number = number_of(opened.answer);
     if number == DONE {
         area_bytes::write(opened.space, table, area);
     }
@@ -38,7 +33,7 @@ fn carry_out(space: Space, table: &mut [u64], plan: Plan, area: &mut [u8])
     requires { Holds area.old space table.old × CarryFits space.count table.old plan }
     ensures { area.new ≡ left_by (carried space table.old plan) }
 {
-    let to = larger(space.count, plan.count as u64) as usize;
+    let to = space.count.max(plan.count as u64) as usize;
     let next = space.carry_out(table, plan);
     area_bytes::put_state(next, area);
     area_bytes::put_entries(table, plan.from, to, area);
@@ -52,41 +47,38 @@ pub enum Asked {
     Resize(u64, u64, Way, u64),
 }
 
-// What is told: the number, and the address of a new piece, 2^64 - 1 where there is none.
+// What is told: the number, and the address of a new piece, 2^64 - 1 where there is none. Two numbers, as the C interface hands out both of them.
 #[derive(Clone, Copy)]
 pub struct Told {
     pub number: u64,
     pub address: u64,
 }
 
-// What is decided: the address that is to be told and the change, or the number of the refusal.
-#[derive(Clone, Copy)]
-pub enum Decision {
-    Change(u64, Plan),
-    Refused(u64),
-}
-
-// Each call's own half decides. Nothing is written.
-fn decide(space: Space, table: &[u64], asked: Asked) -> Decision
+// Each call's own half decides: the address that is to be told and the change, or the number of the refusal. Nothing is written.
+fn decide(space: Space, table: &[u64], asked: Asked) -> Result<(u64, Plan), u64>
     requires { SoundSpace space table.now }
     ensures { Leads space table.now (meant asked space table.now) result }
 {
     match asked {
-        Asked::Allocate(code, size) => match space.decide_allocate(table, code, size) {
-            AllocateDecision::Change(address, plan) => Decision::Change(address, plan),
-            AllocateDecision::Refused(answer) => Decision::Refused(allocate_number(answer)),
-        },
-        Asked::Release(address, size) => match space.decide_release(table, address, size) {
-            ReleaseDecision::Change(plan) => Decision::Change(NO_ADDRESS, plan),
-            ReleaseDecision::Refused(answer) => Decision::Refused(release_number(answer)),
-        },
+        Asked::Allocate(code, size) => space
+            .decide_allocate(table, code, size)
+            .map_err(|refusal| refusal.number()),
+        Asked::Release(address, size) => without_address(space.decide_release(
+            table, address, size,
+        )),
         Asked::Resize(address, size, way, by) => {
-            match space.decide_resize(table, address, size, way, by) {
-                ResizeDecision::Change(plan) => Decision::Change(NO_ADDRESS, plan),
-                ResizeDecision::Refused(answer) => Decision::Refused(resize_number(answer)),
-            }
+            without_address(space.decide_resize(table, address, size, way, by))
         }
     }
+}
+
+// Only an allocation has an address to tell.
+fn without_address<E: Refusal>(decided: Result<Plan, E>) -> Result<(u64, Plan), u64>
+    ensures { result ≡ unaddressed E.by_number decided }
+{
+    decided
+        .map(|plan| (NO_ADDRESS, plan))
+        .map_err(|refusal| refusal.number())
 }
 
 // State and words are read and tested, and the change that is decided on is written, or the refusal told.
@@ -102,14 +94,14 @@ pub fn call(area: &mut [u8], table: &mut [u64], asked: Asked) -> Told
         };
     }
     match decide(space, table, asked) {
-        Decision::Change(address, plan) => {
+        Ok((address, plan)) => {
             carry_out(space, table, plan, area);
             Told {
                 number: DONE,
                 address,
             }
         }
-        Decision::Refused(number) => Told {
+        Err(number) => Told {
             number,
             address: NO_ADDRESS,
         },

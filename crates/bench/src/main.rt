@@ -18,11 +18,11 @@ mod with;
 ghost use Rattle.std.specs.Prelude.{◌≡◌, ◌*◌, ◌<◌, ◌≤◌, length};
 ghost use Rattle.pieces.specs.Words.{entry_words};
 
+use named::Part;
 use pieces::ENTRY_WORDS;
 use space::Space;
-use space::answers::{DONE, address_of, allocate_number, release_number, resize_number};
-use std::io::{Read, Stdin, Stdout};
-use std::num::{wrapping_add_u64, wrapping_sub_u64};
+use space::answers::{DONE, NO_ADDRESS, number_of};
+use std::io::{Read, Stdin};
 
 const PAGE: u64 = 4096;
 
@@ -38,13 +38,27 @@ const LARGEST_CHANGE: u64 = 64;
 
 const FIRST_DRAW: u64 = 88172645463325252;
 
-const WITH_SUMMARY: u64 = 1;
+// The ways by their numbers.
+#[derive(Clone, Copy)]
+enum Way {
+    Plain,
+    WithSummary,
+    NamesDrawn,
+    NamesFound,
+    CallsByName,
+}
 
-const NAMES_DRAWN: u64 = 2;
-
-const NAMES_FOUND: u64 = 3;
-
-const CALLS_BY_NAME: u64 = 4;
+impl From<u64> for Way {
+    fn from(number: u64) -> Way {
+        match number {
+            1 => Way::WithSummary,
+            2 => Way::NamesDrawn,
+            3 => Way::NamesFound,
+            4 => Way::CallsByName,
+            _ => Way::Plain,
+        }
+    }
+}
 
 // The space, the last number drawn, and what is kept of the answers: a checksum, how many calls were accepted, and the sum of the counts of
 // entries.
@@ -59,9 +73,10 @@ pub struct Run {
 
 // A live piece: its entry, address and size.
 #[derive(Clone, Copy)]
-pub enum Found {
-    Live(usize, u64, u64),
-    Nothing,
+pub struct Live {
+    pub entry: usize,
+    pub address: u64,
+    pub size: u64,
 }
 
 // The number drawn after another (xorshift).
@@ -73,15 +88,16 @@ pub fn drawn(x: u64) -> u64 {
 
 // A checksum with one number more.
 pub fn summed(sum: u64, x: u64) -> u64 {
-    drawn(wrapping_add_u64(sum, x))
+    drawn(sum.wrapping_add(x))
 }
 
 // A request's type: metadata or raw.
 pub fn type_of(draw: u64) -> u64 {
     if draw & 8 == 0 {
-        return space::place::METADATA;
+        space::place::METADATA
+    } else {
+        space::place::RAW
     }
-    space::place::RAW
 }
 
 // A request's size: of 8 requests 7 are small, and one has one to four pages.
@@ -103,17 +119,13 @@ fn answered(number: u64, given: u64) -> u64 {
 
 // What is kept behind a call that handed back this space with this number, and gave this where it was accepted.
 pub fn noted(run: Run, space: Space, draw: u64, number: u64, given: u64) -> Run {
-    let mut accepted = run.accepted;
-    if number == DONE {
-        accepted = wrapping_add_u64(accepted, 1);
-    }
     let sum = summed(run.sum, answered(number, given));
     Run {
         space,
         draw,
         sum: summed(summed(sum, space.end), space.count),
-        accepted,
-        entries: wrapping_add_u64(run.entries, space.count),
+        accepted: run.accepted.wrapping_add(u64::from(number == DONE)),
+        entries: run.entries.wrapping_add(space.count),
     }
 }
 
@@ -123,23 +135,30 @@ pub fn allocate(table: &mut [u64], run: Run) -> Run {
     let done = space.allocate(table, type_of(draw), size_of(draw));
     let next = done.space;
     let answer = done.answer;
-    noted(run, next, draw, allocate_number(answer), address_of(answer))
+    noted(
+        run,
+        next,
+        draw,
+        number_of(answer),
+        answer.unwrap_or(NO_ADDRESS),
+    )
 }
 
 // The first live piece from entry i on, of n.
-fn live_from(table: &[u64], i: usize, n: usize) -> Found
+fn live_from(table: &[u64], i: usize, n: usize) -> Option<Live>
     requires { n * entry_words ≤ length table.now }
 {
-    let mut at = i;
-    while at < n {
-        let piece = pieces::piece_at(table, at);
-        let status = piece.status;
-        if !pieces::is_free(status) {
-            return Found::Live(at, piece.address, piece.size);
+    for entry in i..n {
+        let piece = pieces::piece_at(table, entry);
+        if !piece.status.is_free() {
+            return Some(Live {
+                entry,
+                address: piece.address,
+                size: piece.size,
+            });
         }
-        at = at + 1;
     }
-    Found::Nothing
+    None
 }
 
 // Any entry of n.
@@ -151,21 +170,17 @@ pub fn any_of(n: usize, draw: u64) -> usize
 }
 
 // The first live piece from entry i on, of n, or from the entry `first` on where there is none.
-pub fn live_from_or(table: &[u64], i: usize, first: usize, n: usize) -> Found
+pub fn live_from_or(table: &[u64], i: usize, first: usize, n: usize) -> Option<Live>
     requires { n * entry_words ≤ length table.now }
 {
-    let found = live_from(table, i, n);
-    match found {
-        Found::Live(i, a, z) => Found::Live(i, a, z),
-        Found::Nothing => live_from(table, first, n),
-    }
+    live_from(table, i, n).or_else(|| live_from(table, first, n))
 }
 
 // A live piece, found from any entry on, or from the first.
-pub fn any_live(table: &[u64], space: Space, draw: u64) -> Found {
+pub fn any_live(table: &[u64], space: Space, draw: u64) -> Option<Live> {
     let n = pieces::entries_within(space.count, table.len());
     if n == 0 {
-        return Found::Nothing;
+        return None;
     }
     live_from_or(table, any_of(n, draw), 0, n)
 }
@@ -176,16 +191,16 @@ pub fn release_named(table: &mut [u64], run: Run, draw: u64, address: u64, size:
     let done = space.release(table, address, size);
     let next = done.space;
     let answer = done.answer;
-    noted(run, next, draw, release_number(answer), 0)
+    noted(run, next, draw, number_of(answer), 0)
 }
 
 fn release(table: &mut [u64], run: Run) -> Run {
     let draw = drawn(run.draw);
     let space = run.space;
-    let Found::Live(_, address, size) = any_live(table, space, draw) else {
+    let Some(live) = any_live(table, space, draw) else {
         return run;
     };
-    release_named(table, run, draw, address, size)
+    release_named(table, run, draw, live.address, live.size)
 }
 
 // By how many bytes a piece is shortened, and then extended again.
@@ -199,22 +214,22 @@ fn there_and_back(table: &mut [u64], run: Run, draw: u64, address: u64, size: u6
     let done = space.shorten(table, address, size, by);
     let next = done.space;
     let answer = done.answer;
-    let shorter = noted(run, next, draw, resize_number(answer), 0);
+    let shorter = noted(run, next, draw, number_of(answer), 0);
     let space = shorter.space;
-    let done = space.extend(table, address, wrapping_sub_u64(size, by), by);
+    let done = space.extend(table, address, size.wrapping_sub(by), by);
     let next = done.space;
     let answer = done.answer;
-    noted(shorter, next, draw, resize_number(answer), 0)
+    noted(shorter, next, draw, number_of(answer), 0)
 }
 
 // A live piece, found from any entry on, is shortened and extended.
 fn resize(table: &mut [u64], run: Run) -> Run {
     let draw = drawn(run.draw);
     let space = run.space;
-    let Found::Live(_, address, size) = any_live(table, space, draw) else {
+    let Some(live) = any_live(table, space, draw) else {
         return run;
     };
-    there_and_back(table, run, draw, address, size, change_of(draw))
+    there_and_back(table, run, draw, live.address, live.size, change_of(draw))
 }
 
 // One allocation, if the table has fewer entries than that.
@@ -252,13 +267,10 @@ fn turned(table: &mut [u64], start: Run, turns: u64) -> Run {
 
 // What is counted from here on, in a space that is filled.
 fn counted_anew(run: Run) -> Run {
-    let space = run.space;
     Run {
-        space,
-        draw: run.draw,
-        sum: run.sum,
         accepted: 0,
         entries: 0,
+        ..run
     }
 }
 
@@ -273,28 +285,22 @@ fn worked(table: &mut [u64], wish: Wish) -> Run {
         entries: 0,
     };
     let ready = counted_anew(filled(table, start, wish.entries));
-    let way = wish.way;
-    match way {
-        WITH_SUMMARY => with::turned(table, ready, wish.turns),
-        NAMES_DRAWN => named::names(table, ready, wish.part, false, wish.turns),
-        NAMES_FOUND => named::names(table, ready, wish.part, true, wish.turns),
-        CALLS_BY_NAME => named::turned(table, ready, wish.part, wish.turns),
-        _ => turned(table, ready, wish.turns),
+    let part = Part::from(wish.part);
+    match Way::from(wish.way) {
+        Way::Plain => turned(table, ready, wish.turns),
+        Way::WithSummary => with::turned(table, ready, wish.turns),
+        Way::NamesDrawn => named::names(table, ready, part, false, wish.turns),
+        Way::NamesFound => named::names(table, ready, part, true, wish.turns),
+        Way::CallsByName => named::turned(table, ready, part, wish.turns),
     }
 }
 
 // A number with one digit more, as long as it stays small.
 fn with_digit(n: u64, byte: u8) -> u64 {
-    if byte < b'0' {
-        return n;
+    match byte {
+        b'0'..=b'9' if n < 100000000 => n * 10 + u64::from(byte - b'0'),
+        _ => n,
     }
-    let digit = (byte - b'0') as u64;
-    if digit <= 9 {
-        if n < 100000000 {
-            return n * 10 + digit;
-        }
-    }
-    n
 }
 
 // What standard input asks for.
@@ -307,57 +313,28 @@ struct Wish {
     part: u64,
 }
 
-// A wish with one byte more read: a space behind a number starts the next one.
-fn wished(wish: Wish, which: u64, byte: u8) -> Wish {
-    let mut next = wish;
-    if which == 0 {
-        next.entries = with_digit(next.entries, byte);
-    }
-    if which == 1 {
-        next.capacity = with_digit(next.capacity, byte);
-    }
-    if which == 2 {
-        next.turns = with_digit(next.turns, byte);
-    }
-    if which == 3 {
-        next.way = with_digit(next.way, byte);
-    }
-    if which == 4 {
-        next.part = with_digit(next.part, byte);
-    }
-    next
+// The number that a word says: what is no digit is passed over.
+fn value_of(word: &[u8]) -> u64 {
+    word.iter().fold(0, |n, byte| with_digit(n, *byte))
 }
 
-// The five numbers of the text.
+// The five numbers of the text, each behind a space.
 fn asked(text: &[u8]) -> Wish {
-    let mut wish = Wish {
-        entries: 0,
-        capacity: 0,
-        turns: 0,
-        way: 0,
-        part: 0,
-    };
-    let mut which: u64 = 0;
-    let mut i: usize = 0;
-    while i < text.len() {
-        let byte = text[i];
-        if byte == b' ' {
-            which = wrapping_add_u64(which, 1);
-        }
-        wish = wished(wish, which, byte);
-        i = i + 1;
+    let mut words = text.split(|byte| *byte == b' ').map(value_of);
+    Wish {
+        entries: words.next().unwrap_or(0),
+        capacity: words.next().unwrap_or(0),
+        turns: words.next().unwrap_or(0),
+        way: words.next().unwrap_or(0),
+        part: words.next().unwrap_or(0),
     }
-    wish
 }
 
 // The words to lend for so many entries.
 fn words_for(capacity: u64) -> usize
     ensures { result ≤ 1024 * entry_words }
 {
-    if capacity < MOST_ENTRIES as u64 {
-        return capacity as usize * ENTRY_WORDS;
-    }
-    MOST_WORDS
+    capacity.min(MOST_ENTRIES as u64) as usize * ENTRY_WORDS
 }
 
 // The words of which a table is lent. The `ensures` gives the length, which lending a part of them needs.
@@ -367,13 +344,8 @@ fn zero_words() -> [u64; MOST_WORDS]
     [0; MOST_WORDS]
 }
 
-fn say(stdout: Stdout, name: &[u8], n: u64) {
-    let _ = stdout.write_all(name);
-    let _ = stdout.print(n);
-    let _ = stdout.write_all(b"\n");
-}
-
-// Reads until the text is full, the input is over or a read fails, and answers how many bytes were read.
+// Reads until the text is full, the input is over or a read fails, and answers how many bytes were read. By hand, since what std has for it needs a heap,
+// or fails where the input is shorter.
 fn read_full(mut stdin: Stdin, text: &mut [u8]) -> usize
     ensures { result ≤ length text.new }
 {
@@ -397,9 +369,8 @@ fn main(rt: HostRuntime) {
     let mut table = zero_words();
     let words = words_for(wish.capacity);
     let run = worked(&mut table[..words], wish);
-    let space = run.space;
-    say(stdout, b"checksum ", run.sum);
-    say(stdout, b"accepted ", run.accepted);
-    say(stdout, b"entries in all ", run.entries);
-    say(stdout, b"end ", space.end);
+    let _ = println!(stdout; "checksum {}", run.sum);
+    let _ = println!(stdout; "accepted {}", run.accepted);
+    let _ = println!(stdout; "entries in all {}", run.entries);
+    let _ = println!(stdout; "end {}", run.space.end);
 }

@@ -4,46 +4,56 @@
 // Finding alone is a way that finds each name less a way that only draws it. Both note a name with its entry, the one that was found or drawn, so
 // they write the same. The next draw takes that entry in, so that a finding is not begun before the last one has ended.
 ghost use Rattle.std.specs.Prelude.{◌+◌, ◌*◌, ◌<◌, ◌≤◌, length};
-ghost use Rattle.find.specs.Walk.{FindFits};
-ghost use Rattle.pieces.specs.Words.{entry_words};
+ghost use Rattle.find.specs.Walk.{Rising};
+ghost use Rattle.pieces.specs.Words.{entry_words, count_in};
 
-use crate::{Found, Run, allocate, any_of, drawn, live_from_or, release_named, summed};
-use std::num::wrapping_add_u64;
+use crate::{Live, Run, allocate, any_of, drawn, live_from_or, release_named, summed};
 
-const FRONT: u64 = 0;
+// The parts by their numbers.
+#[derive(Clone, Copy)]
+pub enum Part {
+    Front,
+    Middle,
+    End,
+}
 
-const MIDDLE: u64 = 1;
+impl From<u64> for Part {
+    fn from(number: u64) -> Part {
+        match number {
+            0 => Part::Front,
+            1 => Part::Middle,
+            _ => Part::End,
+        }
+    }
+}
 
 // An eighth of n entries, and at least one.
 fn eighth_of(n: usize) -> usize
     requires { 0 < n }
     ensures { (0 < result) × (result ≤ n) }
 {
-    if n < 8 {
-        return 1;
-    }
-    n / 8
+    (n / 8).max(1)
 }
 
 // The first entry of the part, which has an eighth of n.
-fn first_of(part: u64, eighth: usize, n: usize) -> usize
+fn first_of(part: Part, eighth: usize, n: usize) -> usize
     requires { eighth ≤ n }
     ensures { result + eighth ≤ n }
 {
     let behind = n - eighth;
     match part {
-        FRONT => 0,
-        MIDDLE => behind / 2,
-        _ => behind,
+        Part::Front => 0,
+        Part::Middle => behind / 2,
+        Part::End => behind,
     }
 }
 
 // A live piece, found from any entry of the part on, or from its first.
-fn live_in(table: &[u64], n: usize, part: u64, draw: u64) -> Found
+fn live_in(table: &[u64], n: usize, part: Part, draw: u64) -> Option<Live>
     requires { n * entry_words ≤ length table.now }
 {
     if n == 0 {
-        return Found::Nothing;
+        return None;
     }
     let eighth = eighth_of(n);
     let first = first_of(part, eighth, n);
@@ -58,68 +68,68 @@ fn named(run: Run, draw: u64, address: u64, i: usize) -> Run {
     let entry = i as u64;
     Run {
         space,
-        draw: wrapping_add_u64(draw, entry),
+        draw: draw.wrapping_add(entry),
         sum: summed(summed(run.sum, address), entry),
-        accepted: wrapping_add_u64(run.accepted, 1),
-        entries: wrapping_add_u64(run.entries, space.count),
+        accepted: run.accepted.wrapping_add(1),
+        entries: run.entries.wrapping_add(space.count),
     }
 }
 
 // A name is drawn, and found if that is asked for.
-fn name(table: &[u64], run: Run, n: usize, part: u64, finding: bool) -> Run
-    requires { FindFits n table.now }
+fn name(entries: &[u64], run: Run, part: Part, finding: bool) -> Run
+    requires { Rising entries.now (count_in entries.now) }
 {
     let draw = drawn(run.draw);
-    let Found::Live(i, address, size) = live_in(table, n, part, draw) else {
+    let Some(live) = live_in(entries, pieces::count_in(entries), part, draw) else {
         return run;
     };
     if !finding {
-        return named(run, draw, address, i);
+        return named(run, draw, live.address, live.entry);
     }
-    let find::Found::At(at, _) = find::find(address, size, n, table) else {
+    let Ok((at, _)) = find::find(live.address, live.size, entries) else {
         return run;
     };
-    named(run, draw, address, at)
+    named(run, draw, live.address, at)
 }
 
-fn names_on(table: &[u64], start: Run, n: usize, part: u64, finding: bool, turns: u64) -> Run
-    requires { FindFits n table.now }
+fn names_on(entries: &[u64], start: Run, part: Part, finding: bool, turns: u64) -> Run
+    requires { Rising entries.now (count_in entries.now) }
 {
     let mut run = start;
     for _ in 0..turns {
-        run = name(table, run, n, part, finding);
+        run = name(entries, run, part, finding);
     }
     run
 }
 
 // So many names, in a table that stays as it is. In one that is not sound nothing is drawn.
-pub fn names(table: &[u64], start: Run, part: u64, finding: bool, turns: u64) -> Run {
+pub fn names(table: &[u64], start: Run, part: Part, finding: bool, turns: u64) -> Run {
     let space = start.space;
     if !space.is_sound(table) {
         return start;
     }
-    names_on(table, start, space.count as usize, part, finding, turns)
+    names_on(space.entries(table), start, part, finding, turns)
 }
 
 // ---- way 4: a release and an allocation
 
-fn release(table: &mut [u64], run: Run, part: u64) -> Run {
+fn release(table: &mut [u64], run: Run, part: Part) -> Run {
     let draw = drawn(run.draw);
     let space = run.space;
     let n = pieces::entries_within(space.count, table.len());
-    let Found::Live(_, address, size) = live_in(table, n, part, draw) else {
+    let Some(live) = live_in(table, n, part, draw) else {
         return run;
     };
-    release_named(table, run, draw, address, size)
+    release_named(table, run, draw, live.address, live.size)
 }
 
-fn turn(table: &mut [u64], run: Run, part: u64) -> Run {
+fn turn(table: &mut [u64], run: Run, part: Part) -> Run {
     let less = release(table, run, part);
     allocate(table, less)
 }
 
 // So many turns, each of which releases a piece of the part and allocates another one.
-pub fn turned(table: &mut [u64], start: Run, part: u64, turns: u64) -> Run {
+pub fn turned(table: &mut [u64], start: Run, part: Part, turns: u64) -> Run {
     let mut run = start;
     for _ in 0..turns {
         run = turn(table, run, part);

@@ -1,10 +1,9 @@
 // The same workload through the calls with a summary, which must give the same answers. The filling is by the calls without one; then the summary is
 // worked out afresh, and each call of a turn takes it.
-use crate::{Found, Run, any_live, change_of, drawn, noted, size_of, type_of};
+use crate::{Run, any_live, change_of, drawn, noted, size_of, type_of};
 use by_value::{Change, Named, Request};
-use own_summary::ResizedOn;
-use space::answers::{address_of, allocate_number, release_number, resize_number};
-use std::num::wrapping_sub_u64;
+use own_summary::On;
+use space::answers::{NO_ADDRESS, Resized, number_of};
 use totals::Summary;
 
 // A run, and the summary that it keeps.
@@ -25,11 +24,17 @@ fn allocate(table: &mut [u64], kept: Kept) -> Kept {
     };
     let done = own_summary::allocate(space, table, given, request);
     let summary = done.summary;
-    let allocated = done.allocated;
+    let allocated = done.answered;
     let next = allocated.space;
     let answer = allocated.answer;
     Kept {
-        run: noted(run, next, draw, allocate_number(answer), address_of(answer)),
+        run: noted(
+            run,
+            next,
+            draw,
+            number_of(answer),
+            answer.unwrap_or(NO_ADDRESS),
+        ),
         summary,
     }
 }
@@ -39,28 +44,32 @@ fn release(table: &mut [u64], kept: Kept) -> Kept {
     let given = kept.summary;
     let draw = drawn(run.draw);
     let space = run.space;
-    let Found::Live(_, address, size) = any_live(table, space, draw) else {
+    let Some(live) = any_live(table, space, draw) else {
         return kept;
     };
-    let done = own_summary::release(space, table, given, Named { address, size });
+    let named = Named {
+        address: live.address,
+        size: live.size,
+    };
+    let done = own_summary::release(space, table, given, named);
     let summary = done.summary;
-    let released = done.released;
+    let released = done.answered;
     let next = released.space;
     let answer = released.answer;
     Kept {
-        run: noted(run, next, draw, release_number(answer), 0),
+        run: noted(run, next, draw, number_of(answer), 0),
         summary,
     }
 }
 
 // What is kept behind an extend or a shorten.
-fn resized(run: Run, done: ResizedOn, draw: u64) -> Kept {
+fn resized(run: Run, done: On<Resized>, draw: u64) -> Kept {
     let summary = done.summary;
-    let resized = done.resized;
+    let resized = done.answered;
     let next = resized.space;
     let answer = resized.answer;
     Kept {
-        run: noted(run, next, draw, resize_number(answer), 0),
+        run: noted(run, next, draw, number_of(answer), 0),
         summary,
     }
 }
@@ -84,15 +93,18 @@ fn there_and_back(table: &mut [u64], kept: Kept) -> Kept {
     let run = kept.run;
     let draw = drawn(run.draw);
     let space = run.space;
-    let Found::Live(_, address, size) = any_live(table, space, draw) else {
+    let Some(live) = any_live(table, space, draw) else {
         return kept;
     };
-    let by = change_of(draw);
-    let shorter = shorten(table, kept, draw, Change { address, size, by });
+    let change = Change {
+        address: live.address,
+        size: live.size,
+        by: change_of(draw),
+    };
+    let shorter = shorten(table, kept, draw, change);
     let left = Change {
-        address,
-        size: wrapping_sub_u64(size, by),
-        by,
+        size: change.size.wrapping_sub(change.by),
+        ..change
     };
     extend(table, shorter, draw, left)
 }

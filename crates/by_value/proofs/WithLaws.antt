@@ -7,12 +7,11 @@
 --   released_fits, resized_fits, allocated_fits     what carrying out asks, from what was decided
 --   changed_with, placed_with           a call that carried out a plan leaves the summary of the new table
 --   opened_with_lem                     an opening
---   freshened_not, -done, fresh_whole   the summary worked out afresh
-use Prim.Native.Nat.{ℕ, ◌-◌}
+--   freshened_not, freshened_done        the summary worked out afresh
+use Prim.Native.Nat.{ℕ}
 use mathlib.Core.Bool.{Bool, true, false, ◌&&◌}
 use mathlib.Core.List.{List}
 use mathlib.Core.Path.{◌≡◌, refl, sym, ap, ◌∙◌, subst⁻¹}
-use native.Mathlib.Nat.{sub-zero}
 use native.Mathlib.Omega.{arith}
 use lib.IntN.{pos}
 use borrow.Author.Tests.{eq-eqb, ne_eqb}
@@ -22,7 +21,6 @@ use Rattle.by_value.specs.Told.{Told, told}
 use Rattle.by_value.specs.With.{agreeb, summed, unless_refused, after, agreeing, opened_with, freshened}
 use Rattle.change.specs.declared.plan.Plan.{Plan}
 use Rattle.pages.proofs.Numbers.{and_left, and_right, both, not_both, passes, fails}
-use Rattle.pieces.specs.Words.{entries}
 use Rattle.refusals.specs.AnswerNumbers.{not_sound, open_number}
 use Rattle.space.proofs.OutcomeLaws.{is_sound_true}
 use Rattle.space.specs.Giving.{released, resized}
@@ -32,7 +30,8 @@ use Rattle.space.specs.Outcomes.{SoundSpace, soundb, entries_of, Outcome, refuse
 use Rattle.space.specs.Placing.{Placed, unplaced, allocated}
 use Rattle.space.specs.Said.{open_said}
 use Rattle.space.specs.declared.Space.{Space}
-use Rattle.space.specs.declared.answers.Opened.{Opened}
+use Rattle.space.specs.declared.answers.Answered.{Answered}
+use Rattle.refusals.specs.declared.OpenRefusal.{OpenRefusal}
 use Rattle.space.specs.declared.give.Way.{Way}
 use Rattle.totals.specs.Summary.{summary_of, no_totals}
 use Rattle.totals.specs.declared.Summary.{Summary}
@@ -149,11 +148,11 @@ module _ (sp : Space) (w : List ℕ) (s : Summary) {r : Bool} (is : r ≡ (sound
 -- ---- an opening
 
 -- y is what the opening without a summary answered, and x the answer that was handed on
-pub opened_with_lem : (P M : ℕ) (w : List ℕ) (s : Summary) {x y : Opened} {v : List ℕ} {t : Summary} → open_said y v ≡ opened P M w → x ≡ y
+pub opened_with_lem : (P M : ℕ) (w : List ℕ) (s : Summary) {x y : Answered Unit OpenRefusal} {v : List ℕ} {t : Summary} → open_said y v ≡ opened P M w → x ≡ y
     → t ≡ unless_refused (open_number y.answer) no_totals s → told (open_said x v) t ≡ opened_with P M w s
 unfolding opened_with
 opened_with_lem P M w s {y = y} {v = v} {t = t} e is f =
-    ap (λ (u : Opened). told (open_said u v) t) is
+    ap (λ (u : Answered Unit OpenRefusal). told (open_said u v) t) is
     ∙ (ap (told (open_said y v)) f ∙ ap (λ (o : Outcome). told o (unless_refused o.refusal no_totals s)) e)
 
 -- ---- afresh
@@ -167,7 +166,3 @@ module _ (sp : Space) (w : List ℕ) (s : Summary) where
       → told (record { refusal = 0; state = sp; words = w }) (summary_of (pos 0) (entries_of sp w)) ≡ freshened sp w s
   unfolding freshened
   freshened_done e = rw e
-
-  -- t is the summary of the entries from the first on
-  pub fresh_whole : {t : Summary} → t ≡ summary_of (pos 0) (entries w 0 (sp.count - 0)) → t ≡ summary_of (pos 0) (entries_of sp w)
-  fresh_whole e = rw (sub-zero sp.count) at e

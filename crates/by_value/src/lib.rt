@@ -1,13 +1,13 @@
-// The calls with a summary, by value: each takes the summary that was given, and hands back its answer, whether the call changes the summary, and
-// the summary then. `summary` has the same calls over a summary that is lent; those copy it out and in, and the work is done here.
+// The calls with a summary, by value: each hands back its answer, and the summary then if the call changes it; the calls that look at the summary
+// that was given take it. `summary` has the same calls over a summary that is lent; those copy it out and in, and the work is done here.
 //
 // Each call tests state and table once, and the summary against the table; then it decides (`space`), reads the totals of the entries that are to
 // go, carries the change out, and finds the new totals from those that were given, those that went and those that were laid.
 #![tactic(auto)]
 
-ghost use Rattle.std.specs.Prelude.{◌≡◌, ◌&&◌};
+ghost use Rattle.std.specs.Prelude.{◌≡◌, ◌&&◌, Ok, Err, Some, None};
 ghost use Rattle.by_value.specs.Change.{ChangeFits, change_said, changed_by};
-ghost use Rattle.by_value.specs.Told.{told, kept, fresh_number, fresh_said};
+ghost use Rattle.by_value.specs.Told.{told, kept, fresh_refusal, fresh_some, fresh_said};
 ghost use Rattle.by_value.specs.With.{agreeb, unless_refused, opened_with, allocated_with, released_with, resized_with};
 ghost use Rattle.by_value.specs.With.{extended_with, shortened_with, freshened};
 ghost use Rattle.refusals.specs.AnswerNumbers.{open_number};
@@ -19,11 +19,10 @@ ghost use Rattle.totals.specs.Summary.{no_totals};
 use change::plan::Plan;
 use space::Space;
 use space::answers::{
-    AllocateAnswer, Allocated, DONE, NOT_SOUND, OpenAnswer, Opened, ReleaseAnswer, Released,
-    ResizeAnswer, Resized,
+    AllocateRefusal, Allocated, Answered, NOT_SOUND, Opened, Refusal, ReleaseRefusal, Released,
+    ResizeRefusal, Resized,
 };
-use space::give::{ReleaseDecision, ResizeDecision, Way};
-use space::place::AllocateDecision;
+use space::give::Way;
 use totals::Summary;
 
 // ---- what a call is asked
@@ -55,53 +54,33 @@ pub struct Change {
     pub by: u64,
 }
 
-// ---- what it hands back: the answer, whether the summary changes, and the summary
+// ---- what it hands back: the state with the answer, and the summary
 
-#[derive(Clone, Copy)]
-pub enum FreshAnswer {
-    Done,
+// The one refusal of a summary that is worked out afresh.
+#[derive(Clone, Copy, Debug, PartialEq, Eq)]
+pub enum FreshRefusal {
     NotSound,
 }
 
-#[derive(Clone, Copy)]
-pub struct Freshened {
-    pub space: Space,
-    pub answer: FreshAnswer,
+impl Refusal for FreshRefusal {
+    ghost by_number = { fresh_refusal };
+
+    ghost never_0 = { fresh_some };
+
+    fn number(self) -> u64 {
+        match self {
+            FreshRefusal::NotSound => NOT_SOUND,
+        }
+    }
 }
 
-#[derive(Clone, Copy)]
-pub struct OpenedWith {
-    pub opened: Opened,
-    pub counted: bool,
-    pub summary: Summary,
-}
+pub type Freshened = Answered<(), FreshRefusal>;
 
+// What a call answers, and the summary then; none, where the call leaves it as it was given.
 #[derive(Clone, Copy)]
-pub struct AllocatedWith {
-    pub allocated: Allocated,
-    pub counted: bool,
-    pub summary: Summary,
-}
-
-#[derive(Clone, Copy)]
-pub struct ReleasedWith {
-    pub released: Released,
-    pub counted: bool,
-    pub summary: Summary,
-}
-
-#[derive(Clone, Copy)]
-pub struct ResizedWith {
-    pub resized: Resized,
-    pub counted: bool,
-    pub summary: Summary,
-}
-
-#[derive(Clone, Copy)]
-pub struct FreshenedWith {
-    pub freshened: Freshened,
-    pub counted: bool,
-    pub summary: Summary,
+pub struct With<A> {
+    pub answered: A,
+    pub summary: Option<Summary>,
 }
 
 // The state and the summary behind a change.
@@ -111,13 +90,23 @@ pub struct Changed {
     pub summary: Summary,
 }
 
-// The number of an answer: document 01's, where it is a refusal.
-pub fn fresh_number(answer: FreshAnswer) -> u64
-    ensures { result ≡ fresh_number answer }
+// A refused call: the state and the summary stay as they were.
+fn refused<T, E>(space: Space, refusal: E) -> With<Answered<T, E>>
+    ensures { result ≡ record { answered = record { space = space; answer = Err refusal }; summary = None } }
 {
-    match answer {
-        FreshAnswer::Done => DONE,
-        FreshAnswer::NotSound => NOT_SOUND,
+    With {
+        answered: space.answers(Err(refusal)),
+        summary: None,
+    }
+}
+
+// An accepted one, and what it tells.
+fn done<T, E>(changed: Changed, told: T) -> With<Answered<T, E>>
+    ensures { result ≡ record { answered = record { space = changed.space; answer = Ok told }; summary = Some changed.summary } }
+{
+    With {
+        answered: changed.space.answers(Ok(told)),
+        summary: Some(changed.summary),
     }
 }
 
@@ -127,10 +116,7 @@ pub fn fresh_number(answer: FreshAnswer) -> u64
 fn agrees(space: Space, table: &[u64], given: Summary) -> bool
     ensures { result ≡ (soundb space table.now && agreeb space table.now given) }
 {
-    if !space.is_sound(table) {
-        return false;
-    }
-    running::agrees(given, space.count as usize, table)
+    space.is_sound(table) && running::agrees(given, space.entries(table))
 }
 
 // The change that was decided on is written, and the new totals are found.
@@ -142,195 +128,120 @@ fn carry_out(space: Space, table: &mut [u64], given: Summary, plan: Plan) -> Cha
     let to = plan.to;
     let count = plan.count;
     let behind = space.count as usize - to;
-    let was = totals::work_out(from, to, table);
+    let was = totals::work_out(pieces::words_of(table, from, to));
     let next = space.carry_out(table, plan);
-    let is = totals::work_out(from, count - behind, table);
+    let is = totals::work_out(pieces::words_of(table, from, count - behind));
     let moved = totals::moved_by(space.end, next.end);
     Changed {
         space: next,
-        summary: running::replaced(given, was, is, moved, count, table),
+        summary: running::replaced(given, was, is, moved, next.entries(table)),
     }
 }
 
 // An opening that is accepted sets every number to 0.
-fn with_none(opened: Opened, given: Summary) -> OpenedWith
-    ensures { (result.opened ≡ opened) × (kept result.counted given result.summary ≡ unless_refused (open_number opened.answer) no_totals given) }
+fn with_none(opened: Opened) -> With<Opened>
+    ensures answered { result.answered ≡ opened }
+    ensures summary { (given : Summary) → kept result.summary given ≡ unless_refused (open_number opened.answer) no_totals given }
 {
-    let answer = opened.answer;
-    match answer {
-        OpenAnswer::Done => OpenedWith {
-            opened,
-            counted: true,
-            summary: totals::no_totals(),
-        },
-        OpenAnswer::OutOfRange => OpenedWith {
-            opened,
-            counted: false,
-            summary: given,
-        },
+    let summary = match opened.answer {
+        Ok(()) => Some(totals::no_totals()),
+        Err(_) => None,
+    };
+    With {
+        answered: opened,
+        summary,
     }
 }
 
 // ---- the calls
 
-pub fn open(pages: Pages, table: &mut [u64], given: Summary) -> OpenedWith
-    ensures { told (open_said result.opened table.new) (kept result.counted given result.summary)
+pub fn open(pages: Pages, table: &mut [u64]) -> With<Opened>
+    ensures { (given : Summary) → told (open_said result.answered table.new) (kept result.summary given)
         ≡ opened_with pages.page pages.limit table.old given }
 {
-    with_none(Space::open(pages.page, pages.limit, table), given)
+    with_none(Space::open(pages.page, pages.limit, table))
 }
 
 // With the page size and the limit of `Space::open_default`.
-pub fn open_default(table: &mut [u64], given: Summary) -> OpenedWith
-    ensures { told (open_said result.opened table.new) (kept result.counted given result.summary)
+pub fn open_default(table: &mut [u64]) -> With<Opened>
+    ensures { (given : Summary) → told (open_said result.answered table.new) (kept result.summary given)
         ≡ opened_with default_page default_limit table.old given }
 {
-    with_none(Space::open_default(table), given)
+    with_none(Space::open_default(table))
 }
 
-pub fn allocate(space: Space, table: &mut [u64], given: Summary, request: Request) -> AllocatedWith
-    ensures { told (allocate_said result.allocated table.new) (kept result.counted given result.summary)
+pub fn allocate(
+    space: Space,
+    table: &mut [u64],
+    given: Summary,
+    request: Request,
+) -> With<Allocated>
+    ensures { told (allocate_said result.answered table.new) (kept result.summary given)
         ≡ allocated_with space request.code request.size table.old given }
 {
     if !agrees(space, table, given) {
-        return AllocatedWith {
-            allocated: Allocated {
-                space,
-                answer: AllocateAnswer::NotSound,
-            },
-            counted: false,
-            summary: given,
-        };
+        return refused(space, AllocateRefusal::NotSound);
     }
     match space.decide_allocate(table, request.code, request.size) {
-        AllocateDecision::Change(b, plan) => {
-            let changed = carry_out(space, table, given, plan);
-            let next = changed.space;
-            let summary = changed.summary;
-            AllocatedWith {
-                allocated: Allocated {
-                    space: next,
-                    answer: AllocateAnswer::At(b),
-                },
-                counted: true,
-                summary,
-            }
-        }
-        AllocateDecision::Refused(answer) => AllocatedWith {
-            allocated: Allocated { space, answer },
-            counted: false,
-            summary: given,
-        },
+        Ok((address, plan)) => done(carry_out(space, table, given, plan), address),
+        Err(refusal) => refused(space, refusal),
     }
 }
 
-pub fn release(space: Space, table: &mut [u64], given: Summary, named: Named) -> ReleasedWith
-    ensures { told (release_said result.released table.new) (kept result.counted given result.summary)
+pub fn release(space: Space, table: &mut [u64], given: Summary, named: Named) -> With<Released>
+    ensures { told (release_said result.answered table.new) (kept result.summary given)
         ≡ released_with space named.address named.size table.old given }
 {
     if !agrees(space, table, given) {
-        return ReleasedWith {
-            released: Released {
-                space,
-                answer: ReleaseAnswer::NotSound,
-            },
-            counted: false,
-            summary: given,
-        };
+        return refused(space, ReleaseRefusal::NotSound);
     }
     match space.decide_release(table, named.address, named.size) {
-        ReleaseDecision::Change(plan) => {
-            let changed = carry_out(space, table, given, plan);
-            let next = changed.space;
-            let summary = changed.summary;
-            ReleasedWith {
-                released: Released {
-                    space: next,
-                    answer: ReleaseAnswer::Done,
-                },
-                counted: true,
-                summary,
-            }
-        }
-        ReleaseDecision::Refused(answer) => ReleasedWith {
-            released: Released { space, answer },
-            counted: false,
-            summary: given,
-        },
+        Ok(plan) => done(carry_out(space, table, given, plan), ()),
+        Err(refusal) => refused(space, refusal),
     }
 }
 
-pub fn extend(space: Space, table: &mut [u64], given: Summary, change: Change) -> ResizedWith
-    ensures { told (extend_said result.resized table.new) (kept result.counted given result.summary)
+pub fn extend(space: Space, table: &mut [u64], given: Summary, change: Change) -> With<Resized>
+    ensures { told (extend_said result.answered table.new) (kept result.summary given)
         ≡ extended_with space change.address change.size change.by table.old given }
 {
     resize(space, table, given, change, Way::Longer)
 }
 
-pub fn shorten(space: Space, table: &mut [u64], given: Summary, change: Change) -> ResizedWith
-    ensures { told (shorten_said result.resized table.new) (kept result.counted given result.summary)
+pub fn shorten(space: Space, table: &mut [u64], given: Summary, change: Change) -> With<Resized>
+    ensures { told (shorten_said result.answered table.new) (kept result.summary given)
         ≡ shortened_with space change.address change.size change.by table.old given }
 {
     resize(space, table, given, change, Way::Shorter)
 }
 
-fn resize(space: Space, table: &mut [u64], given: Summary, change: Change, way: Way) -> ResizedWith
-    ensures { told (resize_said result.resized table.new) (kept result.counted given result.summary)
+fn resize(
+    space: Space,
+    table: &mut [u64],
+    given: Summary,
+    change: Change,
+    way: Way,
+) -> With<Resized>
+    ensures { told (resize_said result.answered table.new) (kept result.summary given)
         ≡ resized_with space change.address change.size way change.by table.old given }
 {
     if !agrees(space, table, given) {
-        return ResizedWith {
-            resized: Resized {
-                space,
-                answer: ResizeAnswer::NotSound,
-            },
-            counted: false,
-            summary: given,
-        };
+        return refused(space, ResizeRefusal::NotSound);
     }
     match space.decide_resize(table, change.address, change.size, way, change.by) {
-        ResizeDecision::Change(plan) => {
-            let changed = carry_out(space, table, given, plan);
-            let next = changed.space;
-            let summary = changed.summary;
-            ResizedWith {
-                resized: Resized {
-                    space: next,
-                    answer: ResizeAnswer::Done,
-                },
-                counted: true,
-                summary,
-            }
-        }
-        ResizeDecision::Refused(answer) => ResizedWith {
-            resized: Resized { space, answer },
-            counted: false,
-            summary: given,
-        },
+        Ok(plan) => done(carry_out(space, table, given, plan), ()),
+        Err(refusal) => refused(space, refusal),
     }
 }
 
 // The summary worked out afresh, for a table that was kept without one: no call has moved the end.
-pub fn fresh(space: Space, table: &[u64], given: Summary) -> FreshenedWith
-    ensures { told (fresh_said result.freshened table.now) (kept result.counted given result.summary)
+pub fn fresh(space: Space, table: &[u64]) -> With<Freshened>
+    ensures { (given : Summary) → told (fresh_said result.answered table.now) (kept result.summary given)
         ≡ freshened space table.now given }
 {
     if !space.is_sound(table) {
-        return FreshenedWith {
-            freshened: Freshened {
-                space,
-                answer: FreshAnswer::NotSound,
-            },
-            counted: false,
-            summary: given,
-        };
+        return refused(space, FreshRefusal::NotSound);
     }
-    FreshenedWith {
-        freshened: Freshened {
-            space,
-            answer: FreshAnswer::Done,
-        },
-        counted: true,
-        summary: totals::work_out(0, space.count as usize, table),
-    }
+    let summary = totals::work_out(space.entries(table));
+    done(Changed { space, summary }, ())
 }

@@ -2,10 +2,12 @@
 #![tactic(auto)]
 
 ghost use Rattle.std.specs.Prelude.{◌≡◌};
+ghost use Rattle.refusals.specs.AnswerNumbers.{number_by};
 ghost use Rattle.call.specs.Answered.{answered, answer_said};
 
-use refusals::{address_of, allocate_number, release_number, resize_number};
+use refusals::{NO_ADDRESS, Refusal, number_of};
 use space::Space;
+use space::answers::Answered;
 
 // What a caller can ask of an open file: a type's code and a size; a piece by address and size; and by how much it changes.
 #[derive(Clone, Copy)]
@@ -16,12 +18,24 @@ pub enum Call {
     Shorten(u64, u64, u64),
 }
 
-// The state then, the call's number, and its answer: an allocation's address, 2^64 - 1 where it is refused, and 0 of the other calls.
+// The state then, the call's number, and its answer: an allocation's address, 2^64 - 1 where it is refused, and 0 of the other calls. Numbers, as a
+// log's record holds them.
 #[derive(Clone, Copy)]
 pub struct Told {
     pub space: Space,
     pub number: u64,
     pub answer: u64,
+}
+
+// What is recorded of an answer.
+fn recorded<T: Copy, E: Refusal>(done: Answered<T, E>, answer: u64) -> Told
+    ensures { result ≡ record { space = done.space; number = number_by E.by_number done.answer; answer = answer } }
+{
+    Told {
+        space: done.space,
+        number: number_of(done.answer),
+        answer,
+    }
 }
 
 pub fn tell(space: Space, table: &mut [u64], call: Call) -> Told
@@ -30,43 +44,11 @@ pub fn tell(space: Space, table: &mut [u64], call: Call) -> Told
     match call {
         Call::Allocate(code, size) => {
             let done = space.allocate(table, code, size);
-            let next = done.space;
-            let said = done.answer;
-            Told {
-                space: next,
-                number: allocate_number(said),
-                answer: address_of(said),
-            }
+            let address = done.answer.unwrap_or(NO_ADDRESS);
+            recorded(done, address)
         }
-        Call::Release(address, size) => {
-            let done = space.release(table, address, size);
-            let next = done.space;
-            let said = done.answer;
-            Told {
-                space: next,
-                number: release_number(said),
-                answer: 0,
-            }
-        }
-        Call::Extend(address, size, by) => {
-            let done = space.extend(table, address, size, by);
-            let next = done.space;
-            let said = done.answer;
-            Told {
-                space: next,
-                number: resize_number(said),
-                answer: 0,
-            }
-        }
-        Call::Shorten(address, size, by) => {
-            let done = space.shorten(table, address, size, by);
-            let next = done.space;
-            let said = done.answer;
-            Told {
-                space: next,
-                number: resize_number(said),
-                answer: 0,
-            }
-        }
+        Call::Release(address, size) => recorded(space.release(table, address, size), 0),
+        Call::Extend(address, size, by) => recorded(space.extend(table, address, size, by), 0),
+        Call::Shorten(address, size, by) => recorded(space.shorten(table, address, size, by), 0),
     }
 }

@@ -18,18 +18,15 @@ pub fn live_before(i: usize, table: &[u64]) -> Former
     requires { (i * entry_words ≤ length table.now) × EndsFit table.now i }
     ensures { result ≡ former_of table.now i }
 {
-    let mut from = i;
-    while 0 < from {
-        let piece = pieces::piece_at(table, from - 1);
-        let status = piece.status;
-        if let Status::Live(class) = status {
+    for k in (0..i).rev() {
+        let piece = pieces::piece_at(table, k);
+        if let Status::Live(class) = piece.status {
             return Former {
-                from,
+                from: k + 1,
                 class,
                 end: piece.address + piece.size,
             };
         }
-        from = from - 1;
     }
     Former {
         from: 0,
@@ -43,14 +40,10 @@ pub fn live_from(j: usize, n: usize, table: &[u64]) -> usize
     requires { (j ≤ n) × (n * entry_words ≤ length table.now) }
     ensures { result ≡ next_of table.now j (n - j) }
 {
-    let mut to = j;
-    while to < n {
-        let piece = pieces::piece_at(table, to);
-        let status = piece.status;
-        if !pieces::is_free(status) {
+    for to in j..n {
+        if !pieces::piece_at(table, to).status.is_free() {
             return to;
         }
-        to = to + 1;
     }
     n
 }

@@ -7,7 +7,7 @@ ghost use Rattle.change.specs.Change.{closing_gap, end_behind, plan_of, plan_wit
 use crate::around;
 use edit::gap::{Gap, gap_of, tail_of};
 use edit::new::{New, count_new};
-use pieces::Piece;
+use pieces::{Class, Piece};
 
 // The entries from `from` up to `to` are to be replaced by new ones. Then the file ends at `end`, and the table has `count` entries.
 #[derive(Clone, Copy)]
@@ -20,7 +20,7 @@ pub struct Plan {
 }
 
 // The gap behind a piece of class k that ends at a, up to entry `to` or to the page's end.
-fn close(p: u64, k: pieces::Class, a: u64, to: usize, n: usize, table: &[u64]) -> Gap
+fn close(p: u64, k: Class, a: u64, to: usize, n: usize, table: &[u64]) -> Gap
     requires { ((0 < p) × (a + p ≤ 2 ^ 64)) × (n * entry_words ≤ length table.now) }
     ensures { result ≡ closing_gap p k a (entries table.now to (n - to)) }
 {
@@ -28,19 +28,16 @@ fn close(p: u64, k: pieces::Class, a: u64, to: usize, n: usize, table: &[u64]) -
         return tail_of(p, k, a);
     }
     let next = pieces::piece_at(table, to);
-    let status = next.status;
-    gap_of(p, k, a, next.address, pieces::class_of(status))
+    gap_of(p, k, a, next.address, next.status.class())
 }
 
 // Where the file ends if the last piece before entry `to` ends at a.
+#[tactic(auto, unfolding(crate::specs::Change::end_behind))]
 fn end_behind(p: u64, end: u64, a: u64, to: usize, n: usize) -> u64
     requires { (0 < p) × (a + p ≤ 2 ^ 64) }
     ensures { result ≡ end_behind p end a to n }
 {
-    if to < n {
-        return end;
-    }
-    pages::round_up(p, a)
+    if to < n { end } else { pages::round_up(p, a) }
 }
 
 // The plan: the new entries, up to a piece that ends at a and what closes behind it, go between `from` and `to`.
@@ -78,8 +75,7 @@ pub fn with(p: u64, end: u64, n: usize, i: usize, j: usize, piece: Piece, table:
     let former = around::live_before(i, table);
     let before = former.class;
     let to = around::live_from(j, n, table);
-    let status = piece.status;
-    let class = pieces::class_of(status);
+    let class = piece.status.class();
     let a = piece.address + piece.size;
     let front = gap_of(p, before, former.end, piece.address, class);
     let new = New::With(front, piece, close(p, class, a, to, n, table));

@@ -4,13 +4,13 @@
 -- step, its end, and that an exact fit stays the best.
 --
 -- Not here: that the walk finds the best place (BestLaws.antt).
-use mathlib.Core.Path.{◌≡◌, refl, ap, ◌∙◌}
+use mathlib.Core.Path.{◌≡◌, refl, ap}
 use mathlib.Core.Bool.{Bool, true, false, and-false}
 use mathlib.Core.List.{List, [], ◌∷◌}
 use Prim.Native.Nat.{ℕ, ◌+◌, ◌-◌, ◌≤◌, ◌<◌}
 use native.Mathlib.Omega.{arith}
 use lib.Dec.{leb}
-use borrow.Author.Tests.{leb-true, le-leb, lt-leb, le-ltb}
+use borrow.Author.Tests.{leb-true, lt-leb, le-ltb}
 use Rattle.pages.specs.Pages.{up, up_from}
 use Rattle.pages.proofs.Numbers.{leb_same, and_right}
 use Rattle.pages.proofs.PageLaws.{up_ge, up_from_up}
@@ -20,8 +20,8 @@ use Rattle.pieces.specs.declared.Piece.{Piece}
 use Rattle.pieces.specs.Pieces.{free_of, Small, metadata, raw}
 use Rattle.pieces.specs.Words.{entry_at, entries}
 use Rattle.pieces.proofs.WordLaws.{entries_next, entries_none}
-use Rattle.choose.specs.declared.Chosen.{Chosen}
-use Rattle.choose.specs.declared.Chosen.TheVariants.{At}
+use Rattle.choose.specs.Choose.{Chosen}
+use Rattle.std.specs.Prelude.{Some}
 use Rattle.choose.specs.Choose.{room_in, fits_in, better, best_of, best}
 
 -- ---- room
@@ -30,9 +30,6 @@ pub room_small : {k : Class} → Small k → (P s a z : ℕ) → room_in P k s a
 unfolding room_in
 room_small metadata P s a z = refl
 room_small raw P s a z = refl
-
-pub room_enough : {k : Class} → Small k → (P s a z : ℕ) → s ≤ z → room_in P k s a z ≡ true
-room_enough k P s a z h = room_small k P s a z ∙ le-leb s z h
 
 module _ (P : ℕ) (pos : 0 < P) (s a z : ℕ) where
   pub room_short : (k : Class) → z < s → room_in P k s a z ≡ false
@@ -72,7 +69,7 @@ module _ (P : ℕ) (k : Class) (s : ℕ) (x : Piece) where
 -- ---- the walk
 
 module _ (fits : Piece → Bool) (i : ℕ) (b : Chosen) (x : Piece) where
-  pub best_of_better : fits x ≡ true → better x.size b ≡ true → best_of fits i b x ≡ At i x
+  pub best_of_better : fits x ≡ true → better x.size b ≡ true → best_of fits i b x ≡ Some (i, x)
   unfolding best_of
   best_of_better e d = rw (e, d)
 
@@ -97,14 +94,14 @@ module _ (fits : Piece → Bool) (w : List ℕ) (n i : ℕ) (b : Chosen) where
 
 -- an exact fit stays the best: nothing that fits is smaller
 module _ (fits : Piece → Bool) (s : ℕ) (least : (y : Piece) → fits y ≡ true → s ≤ y.size) (i : ℕ) (x : Piece) (is : x.size ≡ s) where
-  exact_of : (j : ℕ) (y : Piece) → best_of fits j (At i x) y ≡ At i x
+  exact_of : (j : ℕ) (y : Piece) → best_of fits j (Some (i, x)) y ≡ Some (i, x)
   exact_of j y = go (fits y) refl
     where
-      go : (t : Bool) → fits y ≡ t → best_of fits j (At i x) y ≡ At i x
-      go true e = best_of_larger fits j (At i x) y (le-ltb y.size x.size (omega (arith, least y e)))
-      go false e = best_of_misfit fits j (At i x) y e
+      go : (t : Bool) → fits y ≡ t → best_of fits j (Some (i, x)) y ≡ Some (i, x)
+      go true e = best_of_larger fits j (Some (i, x)) y (le-ltb y.size x.size (omega (arith, least y e)))
+      go false e = best_of_misfit fits j (Some (i, x)) y e
 
-  pub best_exact : (j : ℕ) (es : List Piece) → best fits j (At i x) es ≡ At i x
+  pub best_exact : (j : ℕ) (es : List Piece) → best fits j (Some (i, x)) es ≡ Some (i, x)
   unfolding best
   best_exact j [] = refl
   best_exact j (y ∷ es) = rw (exact_of j y) (best_exact (j + 1) es)

@@ -10,8 +10,8 @@ use native.Mathlib.Omega.{arith}
 use Rattle.choose.proofs.BestLaws.{best_found, fits_small, fits_large}
 use Rattle.choose.specs.Choose.{fits_in, best, FitsSmall, FitsLarge}
 use Rattle.choose.specs.Place.{in_large, in_small, as_page, large_place_for, small_place_for, place_for}
-use Rattle.choose.specs.declared.Chosen.TheVariants.{At, Nothing}
-use Rattle.choose.specs.declared.Chosen.{Chosen}
+use Rattle.std.specs.Prelude.{Some, None}
+use Rattle.choose.specs.Choose.{Chosen}
 use Rattle.choose.specs.declared.place.Place.TheVariants.{Section, Page, End}
 use Rattle.choose.specs.declared.place.Place.{Place}
 use Rattle.pages.proofs.PageLaws.{up_ge, borders}
@@ -35,7 +35,7 @@ pub record PlaceIn (w : List ℕ) (n i b room : ℕ) : Type 0 where
 
 module _ (P : ℕ) (pos : 0 < P) (w : List ℕ) (n : ℕ) where
   -- what is found is an entry that fits
-  found_in : (k : Class) (room j i b : ℕ) (f : Piece) → best (fits_in P k room) 0 Nothing (entries w 0 n) ≡ At j f → j ≡ i → f.status ≡ Free k
+  found_in : (k : Class) (room j i b : ℕ) (f : Piece) → best (fits_in P k room) 0 None (entries w 0 n) ≡ Some (j, f) → j ≡ i → f.status ≡ Free k
       → f.address ≤ b → b + room ≤ behind f → PlaceIn w n i b room
   found_in k room j i b f q j_is free low high =
       let r = entry_is w n (best_found (fits_in P k room) (entries w 0 n) j f q).0 in
@@ -43,11 +43,11 @@ module _ (P : ℕ) (pos : 0 < P) (w : List ℕ) (n : ℕ) where
 
   large_in : (room i b : ℕ) → large_place_for P room (entries w 0 n) ≡ Section i b → PlaceIn w n i b room
   unfolding large_place_for
-  large_in room i b e = go (best (fits_in P Large room) 0 Nothing (entries w 0 n)) refl e
+  large_in room i b e = go (best (fits_in P Large room) 0 None (entries w 0 n)) refl e
     where
-      go : (r : Chosen) → best (fits_in P Large room) 0 Nothing (entries w 0 n) ≡ r → in_large P r ≡ Section i b → PlaceIn w n i b room
-      go Nothing q d = let z : ◌≡◌ {A = ℕ} 0 1 = cc in absurd (omega arith)
-      go (At j f) q d =
+      go : (r : Chosen) → best (fits_in P Large room) 0 None (entries w 0 n) ≡ r → in_large P r ≡ Section i b → PlaceIn w n i b room
+      go None q d = let z : ◌≡◌ {A = ℕ} 0 1 = cc in absurd (omega arith)
+      go (Some (j, f)) q d =
           let j_is : j ≡ i = cc in
           let b_is : up P f.address ≡ b = cc in
           let l : FitsLarge P room f = fits_large P pos room f (best_found (fits_in P Large room) (entries w 0 n) j f q).1 in
@@ -56,11 +56,11 @@ module _ (P : ℕ) (pos : 0 < P) (w : List ℕ) (n : ℕ) where
 
   large_not_page : (room i b : ℕ) → large_place_for P room (entries w 0 n) ≡ Page i b → ⊥
   unfolding large_place_for
-  large_not_page room i b e = go (best (fits_in P Large room) 0 Nothing (entries w 0 n)) e
+  large_not_page room i b e = go (best (fits_in P Large room) 0 None (entries w 0 n)) e
     where
       go : (r : Chosen) → in_large P r ≡ Page i b → ⊥
-      go Nothing d = let z : ◌≡◌ {A = ℕ} 0 1 = cc in omega arith
-      go (At j f) d = let z : ◌≡◌ {A = ℕ} 0 1 = cc in omega arith
+      go None d = let z : ◌≡◌ {A = ℕ} 0 1 = cc in omega arith
+      go (Some (j, f)) d = let z : ◌≡◌ {A = ℕ} 0 1 = cc in omega arith
 
   -- a page by the large rule is no section
   page_no_section : (q : Place) (i b : ℕ) → as_page q ≡ Section i b → ⊥
@@ -70,12 +70,12 @@ module _ (P : ℕ) (pos : 0 < P) (w : List ℕ) (n : ℕ) where
 
   small_section : (k : Class) → Small k → (room i b : ℕ) → small_place_for P k room (entries w 0 n) ≡ Section i b → PlaceIn w n i b room
   unfolding small_place_for
-  small_section k h room i b e = go (best (fits_in P k room) 0 Nothing (entries w 0 n)) refl e
+  small_section k h room i b e = go (best (fits_in P k room) 0 None (entries w 0 n)) refl e
     where
-      go : (r : Chosen) → best (fits_in P k room) 0 Nothing (entries w 0 n) ≡ r
+      go : (r : Chosen) → best (fits_in P k room) 0 None (entries w 0 n) ≡ r
           → in_small (as_page (large_place_for P P (entries w 0 n))) r ≡ Section i b → PlaceIn w n i b room
-      go Nothing q d = absurd (page_no_section (large_place_for P P (entries w 0 n)) i b d)
-      go (At j f) q d =
+      go None q d = absurd (page_no_section (large_place_for P P (entries w 0 n)) i b d)
+      go (Some (j, f)) q d =
           let j_is : j ≡ i = cc in
           let b_is : f.address ≡ b = cc in
           let l : FitsSmall k room f = fits_small P k h room f (best_found (fits_in P k room) (entries w 0 n) j f q).1 in
@@ -83,7 +83,7 @@ module _ (P : ℕ) (pos : 0 < P) (w : List ℕ) (n : ℕ) where
 
   small_page : (k : Class) (room i b : ℕ) → small_place_for P k room (entries w 0 n) ≡ Page i b → PlaceIn w n i b P
   unfolding small_place_for
-  small_page k room i b e = go (best (fits_in P k room) 0 Nothing (entries w 0 n)) e
+  small_page k room i b e = go (best (fits_in P k room) 0 None (entries w 0 n)) e
     where
       as_page_lem : (q : Place) → large_place_for P P (entries w 0 n) ≡ q → as_page q ≡ Page i b → PlaceIn w n i b P
       as_page_lem (Section j c) u d =
@@ -94,8 +94,8 @@ module _ (P : ℕ) (pos : 0 < P) (w : List ℕ) (n : ℕ) where
       as_page_lem End u d = let z : ◌≡◌ {A = ℕ} 0 1 = cc in absurd (omega arith)
 
       go : (r : Chosen) → in_small (as_page (large_place_for P P (entries w 0 n))) r ≡ Page i b → PlaceIn w n i b P
-      go (At j f) d = let z : ◌≡◌ {A = ℕ} 0 1 = cc in absurd (omega arith)
-      go Nothing d = as_page_lem (large_place_for P P (entries w 0 n)) refl d
+      go (Some (j, f)) d = let z : ◌≡◌ {A = ℕ} 0 1 = cc in absurd (omega arith)
+      go None d = as_page_lem (large_place_for P P (entries w 0 n)) refl d
 
   less : {i b more : ℕ} (room : ℕ) → room ≤ more → PlaceIn w n i b more → PlaceIn w n i b room
   less room l f =

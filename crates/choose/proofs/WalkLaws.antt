@@ -25,14 +25,14 @@ use Rattle.pieces.specs.declared.Piece.{Piece}
 use Rattle.pieces.specs.declared.Status.TheVariants.{Free}
 use Rattle.pieces.specs.declared.Words.{Words}
 use Rattle.pieces.specs.Pieces.{kind_of, Kind}
-use Rattle.pieces.specs.Words.{words_at, piece_of, entry_at, entries}
+use Rattle.pieces.specs.Words.{words_of, words_at, piece_of, entry_at, entries, count_in}
 use Rattle.pieces.proofs.KindLaws.{free_of_kind, free_of_other}
 use Rattle.pieces.proofs.PieceLaws.{true_kind}
-use Rattle.pieces.proofs.WordLaws.{entry_said}
+use Rattle.pieces.proofs.WordLaws.{entry_said, front_count, front_kind, front_entry}
 use Rattle.table.specs.Sound.{Sound}
 use Rattle.table.proofs.Theorems.{count_fits}
 use Rattle.table.proofs.TilingLaws.{ends_below}
-use Rattle.choose.specs.declared.Chosen.TheVariants.{At, Nothing}
+use Rattle.std.specs.Prelude.{Some, None}
 use Rattle.choose.specs.Choose.{room_in, fits_in, better, best_of, best}
 use Rattle.choose.specs.Walk.{no_size, size_if_fits, holding, ChooseFits}
 use Rattle.choose.proofs.ChooseLaws.{room_short, fits_other, fits_free, fits_least}
@@ -40,15 +40,18 @@ use Rattle.choose.proofs.ChooseLaws.{best_of_better, best_of_larger, best_of_mis
 
 -- ---- what the walk asks
 
-pub choose_fits : {P M E n : ℕ} {w : List ℕ} → Sound P M E n w → ChooseFits P w n
-choose_fits {w = w} s =
+pub choose_fits : {P M E n : ℕ} {w v : List ℕ} → Sound P M E n w → v ≡ words_of w 0 n → ChooseFits P v
+choose_fits {n = n} {w = w} s is =
     let r = s.ranges in
-    record {
+    let there = count_fits r in
+    let many = front_count w n there in
+    rw is
+    (record {
       page = page_pos r.page;
-      lent = count_fits r;
-      kinds = s.kinds;
-      sizes = λ i h. omega (arith, ends_below w s.rules.tiling i h, r.end_limit, r.limit_largest);
-    }
+      kinds = λ i h. rw (front_kind w n there i (omega (arith, many))) (s.kinds i (omega (arith, many)));
+      sizes = λ i h.
+          rw (front_entry w n there i (omega (arith, many))) (omega (arith, ends_below w s.rules.tiling i (omega (arith, many)), r.end_limit, r.limit_largest));
+    })
 
 -- ---- a size, or none
 
@@ -83,29 +86,27 @@ module _ (k q z s : ℕ) where
 -- ---- what is held
 
 module _ (w : List ℕ) (i z : ℕ) where
-  pub holding_at : z < no_size → holding w i z ≡ At i (entry_at w i)
+  pub holding_at : z < no_size → holding w i z ≡ Some (i, entry_at w i)
   unfolding holding
   holding_at lt = rw (lt-ltb z no_size lt)
 
-  pub holding_none : no_size ≤ z → holding w i z ≡ Nothing
+  pub holding_none : no_size ≤ z → holding w i z ≡ None
   unfolding holding
   holding_none le = rw (le-ltb z no_size le)
 
 -- the invariant: before entry i the walk holds entry `held`, of `least` bytes, and the best of all is the best of that and of the entries from i on
 pub record Held (P : ℕ) (k : Class) (s : ℕ) (w : List ℕ) (n i held least : ℕ) : Type 0 where
-  pub far : i ≤ n
   pub top : least ≤ no_size
   pub among : least < no_size → held < n
   pub size : least < no_size → (entry_at w held).size ≡ least
-  pub so_far : best (fits_in P k s) i (holding w held least) (entries w i (n - i)) ≡ best (fits_in P k s) 0 Nothing (entries w 0 n)
+  pub so_far : best (fits_in P k s) i (holding w held least) (entries w i (n - i)) ≡ best (fits_in P k s) 0 None (entries w 0 n)
 
 abbrev pub Ended : ℕ → Class → ℕ → List ℕ → ℕ → ℕ → ℕ → Type 0
-Ended P k s w n held least = holding w held least ≡ best (fits_in P k s) 0 Nothing (entries w 0 n)
+Ended P k s w n held least = holding w held least ≡ best (fits_in P k s) 0 None (entries w 0 n)
 
 pub held_first : (P : ℕ) (k : Class) (s : ℕ) (w : List ℕ) (n : ℕ) → Held P k s w n 0 0 no_size
 held_first P k s w n =
     record {
-      far = omega arith;
       top = omega arith;
       among = λ l. absurd (omega arith);
       size = λ l. absurd (omega arith);
@@ -121,7 +122,6 @@ module _ {P : ℕ} {k : Class} {s : ℕ} {w : List ℕ} {n i held least : ℕ} (
   held_kept : i < n → best_of (fits_in P k s) i (holding w held least) (entry_at w i) ≡ holding w held least → Held P k s w n (i + 1) held least
   held_kept lt e =
       record {
-        far = omega arith;
         top = h.top;
         among = h.among;
         size = h.size;
@@ -129,11 +129,10 @@ module _ {P : ℕ} {k : Class} {s : ℕ} {w : List ℕ} {n i held least : ℕ} (
       }
 
   held_taken : i < n → (z : ℕ) → (entry_at w i).size ≡ z → z < no_size
-      → best_of (fits_in P k s) i (holding w held least) (entry_at w i) ≡ At i (entry_at w i) → Held P k s w n (i + 1) i z
+      → best_of (fits_in P k s) i (holding w held least) (entry_at w i) ≡ Some (i, entry_at w i) → Held P k s w n (i + 1) i z
   held_taken lt z is less e =
-      let here : holding w i z ≡ At i (entry_at w i) = holding_at w i z less in
+      let here : holding w i z ≡ Some (i, entry_at w i) = holding_at w i z less in
       record {
-        far = omega arith;
         top = omega arith;
         among = λ l. lt;
         size = λ l. is;
@@ -145,7 +144,7 @@ module _ {P : ℕ} {k : Class} {s : ℕ} {w : List ℕ} {n i held least : ℕ} (
 
   held_exact : 0 < P → least ≡ s → least < no_size → Ended P k s w n held least
   held_exact pos same less =
-      let here : holding w held least ≡ At held (entry_at w held) = holding_at w held least less in
+      let here : holding w held least ≡ Some (held, entry_at w held) = holding_at w held least less in
       let stays = best_exact (fits_in P k s) s (λ y. fits_least P k s y pos) held (entry_at w held) (h.size less ∙ same) i (entries w i (n - i)) in
       here ∙ (sym stays ∙ (rw here at h.so_far))
 
@@ -159,7 +158,7 @@ pub record Turn (P : ℕ) (k : Class) (s : ℕ) (w : List ℕ) (n i held least :
   pub taken : r < least → {g : Bool} → g ≡ room_in P k s u.address u.size → g ≡ true → Held P k s w n (i + 1) i u.size
   pub exact : r < least → {g : Bool} → g ≡ room_in P k s u.address u.size → g ≡ true → u.size ≡ s → Ended P k s w n i u.size
 
-module _ {P : ℕ} {k : Class} {s : ℕ} {w : List ℕ} {n i held least : ℕ} (walk : ChooseFits P w n) (h : Held P k s w n i held least) (lt : i < n) where
+module _ {P : ℕ} {k : Class} {s : ℕ} {w : List ℕ} {i held least : ℕ} (walk : ChooseFits P w) (h : Held P k s w (count_in w) i held least) (lt : i < count_in w) where
   module _ {u : Words} (is : u ≡ words_at w i) {q : ℕ} (wanted : q ≡ kind_of (Free k)) {r : ℕ} (r_is : r ≡ size_if_fits u.kind q u.size s) where
     read : entry_at w i ≡ piece_of u
     read = entry_said w i u is
@@ -188,21 +187,21 @@ module _ {P : ℕ} {k : Class} {s : ℕ} {w : List ℕ} {n i held least : ℕ} (
         best_of_larger _ i _ _ (held_better h u.size size_less ∙ le-ltb u.size least (omega arith)))
         (λ m. best_of_misfit _ i _ _ (fits_by_room e ∙ room_short P walk.page s _ _ k m))
 
-    pass : least ≤ r → Held P k s w n (i + 1) held least
+    pass : least ≤ r → Held P k s w (count_in w) (i + 1) held least
     pass le = held_kept h lt (rw read (go (eqb u.kind q) refl))
       where
         go : (t : Bool) → eqb u.kind q ≡ t → best_of (fits_in P k s) i (holding w held least) (piece_of u) ≡ holding w held least
         go true e = wanted_kept le (eqb-true u.kind q e)
         go false e = best_of_misfit _ i _ _ (kind_misfit (eqb-false u.kind q e))
 
-    take : r < least → room_in P k s u.address u.size ≡ true → Held P k s w n (i + 1) i u.size
+    take : r < least → room_in P k s u.address u.size ≡ true → Held P k s w (count_in w) (i + 1) i u.size
     take less e =
         let it = smaller_is less in
         let better_is = held_better h u.size size_less ∙ lt-ltb u.size least it.less in
         held_taken h lt u.size (ap (λ (v : Piece). v.size) read) size_less
         (rw read (best_of_better (fits_in P k s) i (holding w held least) (piece_of u) (fits_by_room it.wanted ∙ e) better_is))
 
-    pub turn : Turn P k s w n i held least u r
+    pub turn : Turn P k s w (count_in w) i held least u r
     turn =
         record {
           passed = pass;

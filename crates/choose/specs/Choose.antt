@@ -2,6 +2,7 @@
 --
 --   room_in P k s a z      s bytes of class k have room in z bytes at a: a large piece goes to the first multiple of P not below a
 --   fits_in P k s x        the entry x is free, of class k, and has room for s bytes
+--   Chosen                 an entry's number with its piece, or nothing where none fits
 --   better z b             z bytes are fewer than those of the best place b so far
 --   best_of fits i b x     the best place so far, of b and of entry i, which is x, if that fits
 --   best fits i b es       the best place, of b and of those entries of es that fit; the first of es is entry i
@@ -28,8 +29,7 @@ use Rattle.pieces.specs.declared.Status.TheVariants.{Free}
 use Rattle.pieces.specs.declared.Piece.{Piece}
 use Rattle.pieces.specs.Pieces.{behind, free_of, Small, EntryIs}
 use Rattle.table.specs.Sound.{Tiles}
-use Rattle.choose.specs.declared.Chosen.{Chosen}
-use Rattle.choose.specs.declared.Chosen.TheVariants.{At, Nothing}
+use Rattle.std.specs.Prelude.{Option, Some, None}
 
 -- ---- what fits
 
@@ -43,12 +43,15 @@ fits_in P k s x = free_of k x.status && room_in P k s x.address x.size
 
 -- ---- the walk
 
+abbrev pub Chosen : Type 0
+Chosen = Option (ℕ × Piece)
+
 abbrev pub better : ℕ → Chosen → Bool
-better z (At i x) = ltb z x.size
-better z Nothing = true
+better z (Some (i, x)) = ltb z x.size
+better z None = true
 
 unfoldable pub best_of : (Piece → Bool) → ℕ → Chosen → Piece → Chosen
-best_of fits i b x = cond (fits x && better x.size b) (At i x) b
+best_of fits i b x = cond (fits x && better x.size b) (Some (i, x)) b
 
 unfoldable pub best : (Piece → Bool) → ℕ → Chosen → List Piece → Chosen
 best fits i b [] = b
@@ -63,8 +66,8 @@ pub record BestAt (Fits : Piece → Type 0) (es : List Piece) (i : ℕ) (x : Pie
   pub lowest : (y : Piece) → Memᴰ y es → Fits y → y.size ≡ x.size → x.address ≤ y.address
 
 abbrev pub Best : (Piece → Type 0) → List Piece → Chosen → Type 0
-Best Fits es (At i x) = BestAt Fits es i x
-Best Fits es Nothing = (y : Piece) → Memᴰ y es → Fits y → ⊥
+Best Fits es (Some (i, x)) = BestAt Fits es i x
+Best Fits es None = (y : Piece) → Memᴰ y es → Fits y → ⊥
 
 pub record OneBest (Fits : Piece → Type 0) (es : List Piece) (r : Chosen) : Type 0 where
   pub is : Best Fits es r
@@ -78,7 +81,7 @@ NoneEmpty es = (x : Piece) → Memᴰ x es → 1 ≤ x.size
 abbrev pub BestPlace : Type 0
 BestPlace =
     (fits : Piece → Bool) (E a : ℕ) (es : List Piece) → NoneEmpty es → Tiles E a es
-    → OneBest (λ x. fits x ≡ true) es (best fits 0 Nothing es)
+    → OneBest (λ x. fits x ≡ true) es (best fits 0 None es)
 
 pub record FitsSmall (k : Class) (s : ℕ) (x : Piece) : Type 0 where
   pub free : x.status ≡ Free k
@@ -93,9 +96,9 @@ pub record FitsLarge (P s : ℕ) (x : Piece) : Type 0 where
 abbrev pub SmallPlace : Type 0
 SmallPlace =
     (P : ℕ) (k : Class) → Small k → (s E a : ℕ) (es : List Piece) → NoneEmpty es → Tiles E a es
-    → OneBest (FitsSmall k s) es (best (fits_in P k s) 0 Nothing es)
+    → OneBest (FitsSmall k s) es (best (fits_in P k s) 0 None es)
 
 abbrev pub LargePlace : Type 0
 LargePlace =
     (P : ℕ) → 0 < P → (s E a : ℕ) (es : List Piece) → NoneEmpty es → Tiles E a es
-    → OneBest (FitsLarge P s) es (best (fits_in P Large s) 0 Nothing es)
+    → OneBest (FitsLarge P s) es (best (fits_in P Large s) 0 None es)

@@ -16,18 +16,18 @@ use Rattle.pieces.specs.declared.Class.{Class}
 use Rattle.pieces.specs.declared.Class.TheVariants.{SmallMetadata, SmallRaw, Large}
 use Rattle.pieces.specs.declared.Piece.{Piece}
 use Rattle.choose.specs.Choose.{fits_in, best}
-use Rattle.choose.specs.declared.Chosen.{Chosen}
-use Rattle.choose.specs.declared.Chosen.TheVariants.{At, Nothing}
+use Rattle.choose.specs.Choose.{Chosen}
+use Rattle.std.specs.Prelude.{Some, None}
 use Rattle.choose.specs.declared.place.Place.{Place}
 use Rattle.choose.specs.declared.place.Place.TheVariants.{Section, Page, End}
 
 abbrev pub in_large : ℕ → Chosen → Place
-in_large P (At i x) = Section i (up P x.address)
-in_large P Nothing = End
+in_large P (Some (i, x)) = Section i (up P x.address)
+in_large P None = End
 
 abbrev pub in_small : Place → Chosen → Place
-in_small other (At i x) = Section i x.address
-in_small other Nothing = other
+in_small other (Some (i, x)) = Section i x.address
+in_small other None = other
 
 abbrev pub as_page : Place → Place
 as_page (Section i b) = Page i b
@@ -35,10 +35,10 @@ as_page (Page i b) = Page i b
 as_page End = End
 
 unfoldable pub large_place_for : ℕ → ℕ → List Piece → Place
-large_place_for P s es = in_large P (best (fits_in P Large s) 0 Nothing es)
+large_place_for P s es = in_large P (best (fits_in P Large s) 0 None es)
 
 unfoldable pub small_place_for : ℕ → Class → ℕ → List Piece → Place
-small_place_for P k s es = in_small (as_page (large_place_for P P es)) (best (fits_in P k s) 0 Nothing es)
+small_place_for P k s es = in_small (as_page (large_place_for P P es)) (best (fits_in P k s) 0 None es)
 
 unfoldable pub place_for : ℕ → Class → ℕ → List Piece → Place
 place_for P SmallMetadata s es = small_place_for P SmallMetadata s es

@@ -26,16 +26,15 @@ use Rattle.demands.specs.Demands.{Exactly}
 use Rattle.demands.specs.Rows.{Given, given, passed_on, UnknownType, UnknownManager, ZeroAsked}
 use Rattle.demands.specs.Rows.{NameCase, beyond_end_lem, in_free_lem, inside_live_lem, other_size_lem, IsSo, NameRow, HasRoom, HasLeft}
 use Rattle.demands.specs.Rows.{NoPlace, LastLarge, TooMany, FullThere, Row, ListRow}
-use Rattle.find.specs.Find.{FoundAt, find_in, Finds}
-use Rattle.find.specs.declared.Found.TheVariants.{At, BeyondEnd, InFree, InsideLive, OtherSize}
-use Rattle.find.specs.declared.Found.{Found}
+use Rattle.find.specs.Find.{Found, FoundAt, find_in, Finds}
 use Rattle.pages.proofs.Numbers.{not_both}
 use Rattle.pages.specs.Pages.{up}
 use Rattle.pieces.specs.Pieces.{class_of}
 use Rattle.pieces.specs.declared.Class.{Class}
 use Rattle.pieces.specs.declared.Piece.{Piece}
 use Rattle.refusals.specs.AnswerNumbers.{not_sound, unknown_code, zero_asked, beyond_limit, table_full, no_room_behind, too_little_left, slice_too_short}
-use Rattle.refusals.specs.declared.NotNamed.TheVariants.{NoBytes}
+use Rattle.refusals.specs.declared.NotNamed.TheVariants.{BeyondEnd, InFree, InsideLive, OtherSize}
+use Rattle.refusals.specs.declared.NotResized.{NotResized}
 use Rattle.refusals.specs.declared.NotResized.TheVariants.{NoRoomBehind, BeyondLimit, TooLittleLeft}
 use Rattle.requests.specs.Requests.{class_for, class_of_manager}
 use Rattle.room.specs.Room.{remainsb}
@@ -43,17 +42,15 @@ use Rattle.rules.specs.Editing.{remove, resize}
 use Rattle.sections.specs.Sections.{sections, pair_words}
 use Rattle.space.proofs.OpenLaws.{opened_refused, opened_done}
 use Rattle.space.proofs.OutcomeLaws.{is_sound_true, sound_true}
-use Rattle.space.specs.Giving.{name_of, named_as, named_in, when_named, naming, released_at, released}
+use Rattle.space.specs.Giving.{name_of, when_named, naming, released_at, released}
 use Rattle.space.specs.Giving.{new_size, resized_to, resized_at, resized, extended, shortened}
 use Rattle.space.specs.Listing.{ListOutcome, listed_as, listed}
 use Rattle.space.specs.Opening.{opened}
 use Rattle.space.specs.Outcomes.{SoundSpace, soundb, entries_of, lives_of, Outcome, refusing, plain, settled}
 use Rattle.space.specs.Placing.{Placed, placed_at, placed, allocated}
 use Rattle.space.specs.declared.Space.{Space}
-use Rattle.space.specs.declared.give.Named.TheVariants.{Not}
-use Rattle.space.specs.declared.give.NewSize.{NewSize}
-use Rattle.space.specs.declared.give.NewSize.TheVariants.{Kept}
 use Rattle.space.specs.declared.give.Way.TheVariants.{Longer, Shorter}
+use Rattle.std.specs.Prelude.{Result, Ok, Err}
 use Rattle.table.proofs.LocalLaws.{ranges_true, true_ranges}
 use Rattle.table.specs.Fill.{fill}
 use Rattle.table.specs.Local.{rangesb}
@@ -87,7 +84,7 @@ module _ (sp : Space) (w : List ℕ) where
   -- 13 to 16, and else what was found decides
   found_row : SoundSpace sp w → (a z : ℕ) (found : ℕ → Piece → Outcome) (Rest : ℕ → Type 0)
       → ((i : ℕ) (x : Piece) → FoundAt a z (entries_of sp w) i x → Rest (found i x).refusal) → (f : Found) → find_in a z 0 (entries_of sp w) ≡ f
-      → NameRow sp w a z (when_named sp w found (named_as f)).refusal (Rest (when_named sp w found (named_as f)).refusal)
+      → NameRow sp w a z (when_named sp w found f).refusal (Rest (when_named sp w found f).refusal)
   unfolding when_named
   found_row s a z found Rest h f q = go f q (rw q at (told_right sp w s a z))
     where
@@ -96,16 +93,16 @@ module _ (sp : Space) (w : List ℕ) where
       none_before {f} c q l = not_before sp w s a z c f q l
 
       go : (f : Found) → find_in a z 0 (entries_of sp w) ≡ f → Finds sp.end a z (entries_of sp w) f
-          → NameRow sp w a z (when_named sp w found (named_as f)).refusal (Rest (when_named sp w found (named_as f)).refusal)
-      go BeyondEnd q so = given so refl
-      go InFree q so = passed_on (none_before beyond_end_lem q (omega arith)) (given so refl)
-      go InsideLive q so =
+          → NameRow sp w a z (when_named sp w found f).refusal (Rest (when_named sp w found f).refusal)
+      go (Err BeyondEnd) q so = given so refl
+      go (Err InFree) q so = passed_on (none_before beyond_end_lem q (omega arith)) (given so refl)
+      go (Err InsideLive) q so =
           passed_on (none_before beyond_end_lem q (omega arith)) (passed_on (none_before in_free_lem q (omega arith))
           (given so refl))
-      go OtherSize q so =
+      go (Err OtherSize) q so =
           passed_on (none_before beyond_end_lem q (omega arith)) (passed_on (none_before in_free_lem q (omega arith))
           (passed_on (none_before inside_live_lem q (omega arith)) (given so refl)))
-      go (At i x) q so =
+      go (Ok (i, x)) q so =
           passed_on (none_before beyond_end_lem q (omega arith)) (passed_on (none_before in_free_lem q (omega arith))
           (passed_on (none_before inside_live_lem q (omega arith)) (passed_on (none_before other_size_lem q (omega arith)) (h i x so))))
 
@@ -123,16 +120,16 @@ module _ (sp : Space) (w : List ℕ) where
     NamedRow r = NameRow sp w a z r (Rest r)
 
     naming_row : Given (naming sp w false a z found).refusal not_sound (SoundSpace sp w → ⊥) (NamedRow (naming sp w false a z found).refusal)
-    unfolding naming named_in refusing
+    unfolding naming refusing
     naming_row = sound_row _ NamedRow (λ s. found_row s a z found Rest (h s) (find_in a z 0 (entries_of sp w)) refl)
 
     asking_row : (m : ℕ)
         → Given (naming sp w (eqb z 0 || eqb m 0) a z found).refusal not_sound (SoundSpace sp w → ⊥)
         (Given (naming sp w (eqb z 0 || eqb m 0) a z found).refusal zero_asked (ZeroAsked z m) (NamedRow (naming sp w (eqb z 0 || eqb m 0) a z found).refusal))
-    unfolding naming named_in when_named refusing
+    unfolding naming when_named refusing
     asking_row m =
         sound_row _ (λ r. Given r zero_asked (ZeroAsked z m) (NamedRow r))
-        (λ s. first (λ r. (when_named sp w found r).refusal) zero_asked (Not NoBytes) _ refl NamedRow _ (zero_test z m) (test_zero z m)
+        (λ s. first refusal_of zero_asked _ _ refl NamedRow _ (zero_test z m) (test_zero z m)
         (λ e. found_row s a z found Rest (h s) (find_in a z 0 (entries_of sp w)) refl))
 
 -- ---- an extend and a shorten, behind the name
@@ -148,7 +145,7 @@ module _ (sp : Space) (w : List ℕ) (s : SoundSpace sp w) (a z i : ℕ) (x : Pi
   GrownRow m r = Given r beyond_limit (Beyond sp w s a z i x f m) (SettledRow (longer m) r)
 
   -- the number of a new size
-  abbrev sized : NewSize → ℕ
+  abbrev sized : Result ℕ NotResized → ℕ
   sized n = (resized_to sp a z w n).refusal
 
   extend_row : (m : ℕ) → Given (resized_at sp a z Longer m w i x).refusal no_room_behind (HasRoom sp w a z m → ⊥)
@@ -156,8 +153,8 @@ module _ (sp : Space) (w : List ℕ) (s : SoundSpace sp w) (a z i : ℕ) (x : Pi
   unfolding new_size resized_to
   extend_row m =
       let there = the_room sp w s a z i x f m in
-      first_not sized no_room_behind (Kept NoRoomBehind) _ refl (GrownRow m) (room sp w s a z i x f m (class_of x.status)) (has_room sp w s a z i x f m) there
-      (λ h. first sized beyond_limit (Kept BeyondLimit) _ refl (SettledRow (longer m)) _
+      first_not sized no_room_behind (Err NoRoomBehind) _ refl (GrownRow m) (room sp w s a z i x f m (class_of x.status)) (has_room sp w s a z i x f m) there
+      (λ h. first sized beyond_limit (Err BeyondLimit) _ refl (SettledRow (longer m)) _
       (grows_last sp w s a z i x f m (there h)) (last_grows sp w s a z i x f m) (λ e. settled_row sp w (longer m)))
 
   abbrev shorter : ℕ → List Piece
@@ -167,7 +164,7 @@ module _ (sp : Space) (w : List ℕ) (s : SoundSpace sp w) (a z i : ℕ) (x : Pi
       (SettledRow (shorter k) (resized_at sp a z Shorter k w i x).refusal)
   unfolding new_size resized_to
   shorten_row k =
-      first_not sized too_little_left (Kept TooLittleLeft) _ refl (SettledRow (shorter k)) (remainsb sp.page (class_of x.status) z k)
+      first_not sized too_little_left (Err TooLittleLeft) _ refl (SettledRow (shorter k)) (remainsb sp.page (class_of x.status) z k)
       (has_left sp w s a z i x f k) (the_left sp w s a z i x f k) (λ h. settled_row sp w (shorter k))
 
 -- ---- each call

@@ -13,19 +13,19 @@ use native.Mathlib.Omega.{arith}
 use Rattle.demands.specs.Demands.{OneOfFive}
 use Rattle.demands.specs.Rows.{NameCase, live_piece, beyond_end_lem, in_free_lem, inside_live_lem, other_size_lem, IsSo}
 use Rattle.find.proofs.FindLaws.{finds_right}
-use Rattle.find.specs.Find.{find_in, Finds}
-use Rattle.find.specs.declared.Found.TheVariants.{At, BeyondEnd, InFree, InsideLive, OtherSize}
-use Rattle.find.specs.declared.Found.{Found}
+use Rattle.find.specs.Find.{Found, find_in, Finds}
 use Rattle.pieces.proofs.PieceLaws.{entry_among, entry_number}
+use Rattle.refusals.specs.declared.NotNamed.TheVariants.{BeyondEnd, InFree, InsideLive, OtherSize}
+use Rattle.std.specs.Prelude.{Ok, Err}
 use Rattle.space.specs.Outcomes.{SoundSpace, entries_of}
 use Rattle.space.specs.declared.Space.{Space}
 
 abbrev pub case_of : Found → NameCase
-case_of (At i x) = live_piece
-case_of BeyondEnd = beyond_end_lem
-case_of InFree = in_free_lem
-case_of InsideLive = inside_live_lem
-case_of OtherSize = other_size_lem
+case_of (Ok (i, x)) = live_piece
+case_of (Err BeyondEnd) = beyond_end_lem
+case_of (Err InFree) = in_free_lem
+case_of (Err InsideLive) = inside_live_lem
+case_of (Err OtherSize) = other_size_lem
 
 -- the place of a case in a row: the four refusals, and then the live piece
 abbrev pub place_of : NameCase → ℕ
@@ -46,11 +46,11 @@ module _ (sp : Space) (w : List ℕ) (s : SoundSpace sp w) (a z : ℕ) where
   told_right = (finds_right sp.page sp.end a z (entries_of sp w) s.rules).0
 
   so_of : (r : Found) → IsFound r → IsSo sp w a z (case_of r)
-  so_of (At i x) f = record { entry = x; among = entry_among f.entry; named = f.named }
-  so_of BeyondEnd h = h
-  so_of InFree h = h
-  so_of InsideLive h = h
-  so_of OtherSize h = h
+  so_of (Ok (i, x)) f = record { entry = x; among = entry_among f.entry; named = f.named }
+  so_of (Err BeyondEnd) h = h
+  so_of (Err InFree) h = h
+  so_of (Err InsideLive) h = h
+  so_of (Err OtherSize) h = h
 
   record FoundOf (c : NameCase) : Type 0 where
     found : Found
@@ -60,11 +60,11 @@ module _ (sp : Space) (w : List ℕ) (s : SoundSpace sp w) (a z : ℕ) where
   found_of : (c : NameCase) → IsSo sp w a z c → FoundOf c
   found_of live_piece h =
       let i = entry_number h.among in
-      record { found = At i.0 h.entry; right = record { entry = i.1; named = h.named }; is = refl }
-  found_of beyond_end_lem h = record { found = BeyondEnd; right = h; is = refl }
-  found_of in_free_lem h = record { found = InFree; right = h; is = refl }
-  found_of inside_live_lem h = record { found = InsideLive; right = h; is = refl }
-  found_of other_size_lem h = record { found = OtherSize; right = h; is = refl }
+      record { found = Ok (i.0, h.entry); right = record { entry = i.1; named = h.named }; is = refl }
+  found_of beyond_end_lem h = record { found = Err BeyondEnd; right = h; is = refl }
+  found_of in_free_lem h = record { found = Err InFree; right = h; is = refl }
+  found_of inside_live_lem h = record { found = Err InsideLive; right = h; is = refl }
+  found_of other_size_lem h = record { found = Err OtherSize; right = h; is = refl }
 
   alone : (c : NameCase) → IsSo sp w a z c → c ≡ case_of told
   alone c h =

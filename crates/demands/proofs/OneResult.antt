@@ -14,19 +14,20 @@ use Rattle.demands.specs.Demands.{Unique, OneResult}
 use Rattle.refusals.specs.AnswerNumbers.{not_sound, unknown_code, zero_asked, beyond_limit, no_room_behind, too_little_left}
 use Rattle.refusals.specs.AnswerNumbers.{beyond_end, in_free, inside_live, other_size, not_named_number}
 use Rattle.refusals.specs.AnswerNumbers.{open_number, allocate_number, address_of, release_number, resize_number, list_number, count_of}
-use Rattle.refusals.specs.declared.AllocateAnswer.{AllocateAnswer}
-use Rattle.refusals.specs.declared.ListAnswer.{ListAnswer}
-use Rattle.refusals.specs.declared.OpenAnswer.{OpenAnswer}
-use Rattle.refusals.specs.declared.ReleaseAnswer.{ReleaseAnswer}
-use Rattle.refusals.specs.declared.ResizeAnswer.{ResizeAnswer}
-use Rattle.refusals.specs.declared.NotNamed.TheVariants.{NoBytes, BeyondEnd, InFree, InsideLive, OtherSize}
+use Rattle.refusals.specs.declared.AllocateRefusal.{AllocateRefusal}
+use Rattle.refusals.specs.declared.ListRefusal.{ListRefusal}
+use Rattle.refusals.specs.declared.OpenRefusal.{OpenRefusal}
+use Rattle.refusals.specs.declared.ReleaseRefusal.{ReleaseRefusal}
+use Rattle.refusals.specs.declared.ResizeRefusal.{ResizeRefusal}
+use Rattle.refusals.specs.declared.NotNamed.TheVariants.{BeyondEnd, InFree, InsideLive, OtherSize}
 use Rattle.refusals.specs.declared.NotNamed.{NotNamed}
 use Rattle.refusals.specs.declared.NotResized.TheVariants.{NoRoomBehind, BeyondLimit, TooLittleLeft}
-use Rattle.refusals.specs.declared.OpenAnswer.TheVariants as opening
-use Rattle.refusals.specs.declared.AllocateAnswer.TheVariants as allocating
-use Rattle.refusals.specs.declared.ReleaseAnswer.TheVariants as releasing
-use Rattle.refusals.specs.declared.ResizeAnswer.TheVariants as resizing
-use Rattle.refusals.specs.declared.ListAnswer.TheVariants as listing
+use Rattle.refusals.specs.declared.OpenRefusal.TheVariants as opening
+use Rattle.refusals.specs.declared.AllocateRefusal.TheVariants as allocating
+use Rattle.refusals.specs.declared.ReleaseRefusal.TheVariants as releasing
+use Rattle.refusals.specs.declared.ResizeRefusal.TheVariants as resizing
+use Rattle.refusals.specs.declared.ListRefusal.TheVariants as listing
+use Rattle.std.specs.Prelude.{Result, Ok, Err}
 use Rattle.space.specs.Giving.{released, extended, shortened}
 use Rattle.space.specs.Listing.{ListOutcome, listed}
 use Rattle.space.specs.Opening.{opened, default_page, default_limit}
@@ -43,87 +44,87 @@ module _ {R O : Type 0} (said : R → List ℕ → O) (back : O → R) (words : 
 
 -- ---- the ways back
 
-open_of : ℕ → OpenAnswer
-open_of k = cond (eqb k 0) opening.Done opening.OutOfRange
+open_of : ℕ → Result Unit OpenRefusal
+open_of k = cond (eqb k 0) (Ok tt) (Err opening.OutOfRange)
 
-allocate_of : ℕ → ℕ → AllocateAnswer
+allocate_of : ℕ → ℕ → Result ℕ AllocateRefusal
 allocate_of k a =
-    cond (eqb k 0) (allocating.At a)
-    (cond (eqb k not_sound) allocating.NotSound
+    cond (eqb k 0) (Ok a)
+    (Err (cond (eqb k not_sound) allocating.NotSound
     (cond (eqb k unknown_code) allocating.UnknownType
-    (cond (eqb k zero_asked) allocating.NoBytes (cond (eqb k beyond_limit) allocating.BeyondLimit allocating.TableFull))))
+    (cond (eqb k zero_asked) allocating.NoBytes (cond (eqb k beyond_limit) allocating.BeyondLimit allocating.TableFull)))))
 
 -- the reason why a piece is not named, in an answer; and else r
 named_of : {R : Type 0} → (NotNamed → R) → R → ℕ → R
 named_of answer r k =
-    cond (eqb k zero_asked) (answer NoBytes)
-    (cond (eqb k beyond_end) (answer BeyondEnd)
+    cond (eqb k beyond_end) (answer BeyondEnd)
     (cond (eqb k in_free) (answer InFree)
-    (cond (eqb k inside_live) (answer InsideLive) (cond (eqb k other_size) (answer OtherSize) r))))
+    (cond (eqb k inside_live) (answer InsideLive) (cond (eqb k other_size) (answer OtherSize) r)))
 
-release_of : ℕ → ReleaseAnswer
+release_of : ℕ → Result Unit ReleaseRefusal
 release_of k =
-    named_of releasing.NotNamed (cond (eqb k 0) releasing.Done (cond (eqb k not_sound) releasing.NotSound releasing.TableFull)) k
+    named_of (λ why. Err (releasing.NotNamed why)) (cond (eqb k 0) (Ok tt) (Err (cond (eqb k not_sound) releasing.NotSound releasing.TableFull))) k
 
-resize_of : ℕ → ResizeAnswer
+resize_of : ℕ → Result Unit ResizeRefusal
 resize_of k =
-    named_of resizing.NotNamed
-    (cond (eqb k 0) resizing.Done
-    (cond (eqb k not_sound) resizing.NotSound
+    named_of (λ why. Err (resizing.NotNamed why))
+    (cond (eqb k 0) (Ok tt)
+    (Err (cond (eqb k not_sound) resizing.NotSound
+    (cond (eqb k zero_asked) resizing.NoBytes
     (cond (eqb k no_room_behind) (resizing.NotResized NoRoomBehind)
     (cond (eqb k beyond_limit) (resizing.NotResized BeyondLimit)
-    (cond (eqb k too_little_left) (resizing.NotResized TooLittleLeft) resizing.TableFull))))) k
+    (cond (eqb k too_little_left) (resizing.NotResized TooLittleLeft) resizing.TableFull))))))) k
 
-list_of : ℕ → ℕ → ListAnswer
+list_of : ℕ → ℕ → Result ℕ ListRefusal
 list_of k count =
-    cond (eqb k 0) (listing.Sections count)
-    (cond (eqb k not_sound) listing.NotSound (cond (eqb k unknown_code) listing.UnknownManager listing.SliceTooShort))
+    cond (eqb k 0) (Ok count)
+    (Err (cond (eqb k not_sound) listing.NotSound (cond (eqb k unknown_code) listing.UnknownManager listing.SliceTooShort)))
 
-open_back : (a : OpenAnswer) → open_of (open_number a) ≡ a
+open_back : (a : Result Unit OpenRefusal) → open_of (open_number a) ≡ a
 unfolding open_of
-open_back opening.Done = refl
-open_back opening.OutOfRange = refl
+open_back (Ok u) = refl
+open_back (Err opening.OutOfRange) = refl
 
-allocate_back : (a : AllocateAnswer) → allocate_of (allocate_number a) (address_of a) ≡ a
+allocate_back : (a : Result ℕ AllocateRefusal) → allocate_of (allocate_number a) (address_of a) ≡ a
 unfolding allocate_of
-allocate_back (allocating.At b) = refl
-allocate_back allocating.NotSound = refl
-allocate_back allocating.UnknownType = refl
-allocate_back allocating.NoBytes = refl
-allocate_back allocating.BeyondLimit = refl
-allocate_back allocating.TableFull = refl
+allocate_back (Ok b) = refl
+allocate_back (Err allocating.NotSound) = refl
+allocate_back (Err allocating.UnknownType) = refl
+allocate_back (Err allocating.NoBytes) = refl
+allocate_back (Err allocating.BeyondLimit) = refl
+allocate_back (Err allocating.TableFull) = refl
 
 named_back : {R : Type 0} (answer : NotNamed → R) (r : R) (why : NotNamed) → named_of answer r (not_named_number why) ≡ answer why
 unfolding named_of
-named_back answer r NoBytes = refl
 named_back answer r BeyondEnd = refl
 named_back answer r InFree = refl
 named_back answer r InsideLive = refl
 named_back answer r OtherSize = refl
 
-release_back : (a : ReleaseAnswer) → release_of (release_number a) ≡ a
+release_back : (a : Result Unit ReleaseRefusal) → release_of (release_number a) ≡ a
 unfolding release_of named_of
-release_back releasing.Done = refl
-release_back releasing.NotSound = refl
-release_back (releasing.NotNamed why) = named_back releasing.NotNamed _ why
-release_back releasing.TableFull = refl
+release_back (Ok u) = refl
+release_back (Err releasing.NotSound) = refl
+release_back (Err (releasing.NotNamed why)) = named_back (λ r. Err (releasing.NotNamed r)) _ why
+release_back (Err releasing.TableFull) = refl
 
-resize_back : (a : ResizeAnswer) → resize_of (resize_number a) ≡ a
+resize_back : (a : Result Unit ResizeRefusal) → resize_of (resize_number a) ≡ a
 unfolding resize_of named_of
-resize_back resizing.Done = refl
-resize_back resizing.NotSound = refl
-resize_back (resizing.NotNamed why) = named_back resizing.NotNamed _ why
-resize_back (resizing.NotResized NoRoomBehind) = refl
-resize_back (resizing.NotResized BeyondLimit) = refl
-resize_back (resizing.NotResized TooLittleLeft) = refl
-resize_back resizing.TableFull = refl
+resize_back (Ok u) = refl
+resize_back (Err resizing.NotSound) = refl
+resize_back (Err resizing.NoBytes) = refl
+resize_back (Err (resizing.NotNamed why)) = named_back (λ r. Err (resizing.NotNamed r)) _ why
+resize_back (Err (resizing.NotResized NoRoomBehind)) = refl
+resize_back (Err (resizing.NotResized BeyondLimit)) = refl
+resize_back (Err (resizing.NotResized TooLittleLeft)) = refl
+resize_back (Err resizing.TableFull) = refl
 
-list_back : (a : ListAnswer) → list_of (list_number a) (count_of a) ≡ a
+list_back : (a : Result ℕ ListRefusal) → list_of (list_number a) (count_of a) ≡ a
 unfolding list_of
-list_back (listing.Sections k) = refl
-list_back listing.NotSound = refl
-list_back listing.UnknownManager = refl
-list_back listing.SliceTooShort = refl
+list_back (Ok k) = refl
+list_back (Err listing.NotSound) = refl
+list_back (Err listing.UnknownManager) = refl
+list_back (Err listing.SliceTooShort) = refl
 
 -- ---- a line for each call
 

@@ -18,32 +18,29 @@ use Rattle.choose.specs.declared.place.Place.{Place}
 use Rattle.demands.specs.Calls.{Call, called, refusals_of, list_refusals, handed_back, OnSpace, allocating, releasing, extending, shortening}
 use Rattle.demands.specs.Calls.{opens, allocates, releases, extends, shortens}
 use Rattle.demands.specs.Demands.{Answered, accepted, refused, list_outcome, Refusals}
-use Rattle.find.specs.Find.{find_in}
-use Rattle.find.specs.declared.Found.TheVariants as finding
-use Rattle.find.specs.declared.Found.{Found}
+use Rattle.find.specs.Find.{Found, find_in}
 use Rattle.pages.proofs.Numbers.{not_both}
 use Rattle.pieces.specs.Pieces.{class_of}
 use Rattle.pieces.specs.declared.Class.{Class}
 use Rattle.pieces.specs.declared.Piece.{Piece}
 use Rattle.refusals.specs.AnswerNumbers.{out_of_range, not_sound, zero_asked, table_full, no_room_behind, beyond_limit, too_little_left, no_address}
 use Rattle.refusals.specs.AnswerNumbers.{beyond_end, in_free, inside_live, other_size}
-use Rattle.refusals.specs.declared.NotNamed.TheVariants.{NoBytes}
+use Rattle.refusals.specs.declared.NotNamed.TheVariants as finding
 use Rattle.refusals.specs.declared.NotResized.TheVariants.{NoRoomBehind, BeyondLimit, TooLittleLeft}
 use Rattle.room.specs.Room.{room_behindb, grows_beyondb, remainsb}
 use Rattle.space.proofs.GiveLaws.{released_unsound, resized_unsound}
 use Rattle.space.proofs.ListLaws.{listed_unsound}
 use Rattle.space.proofs.OpenLaws.{nowhere_unsound}
 use Rattle.space.proofs.PlaceLaws.{allocated_unsound}
-use Rattle.space.specs.Giving.{named_as, named_in, when_named, naming, released_at, released}
+use Rattle.space.specs.Giving.{when_named, naming, released_at, released}
 use Rattle.space.specs.Giving.{entries_behind, new_size, resized_to, resized_at, resized, extended, shortened}
 use Rattle.space.specs.Listing.{ListOutcome, uncounted, listed_as, listed}
 use Rattle.space.specs.Opening.{nowhere, opened}
 use Rattle.space.specs.Outcomes.{entries_of, Outcome, refusing, plain, settled}
 use Rattle.space.specs.Placing.{Placed, unplaced, placed_at, placed, allocated}
 use Rattle.space.specs.declared.Space.{Space}
-use Rattle.space.specs.declared.give.Named.TheVariants.{Not}
-use Rattle.space.specs.declared.give.NewSize.TheVariants.{Bytes, Kept}
 use Rattle.space.specs.declared.give.Way.TheVariants.{Longer, Shorter}
+use Rattle.std.specs.Prelude.{Ok, Err}
 use Rattle.table.specs.Local.{rangesb}
 
 -- ---- one refusal more
@@ -98,27 +95,32 @@ module _ {ks : List ℕ} {sp : Space} {w : List ℕ} where
   -- the front of the calls that name a piece; 4 is among the numbers where the call has that refusal
   naming_answered : (zero : Bool) (a z : ℕ) (found : ℕ → Piece → Outcome) → Memᴰ not_sound ks → (zero ≡ true → Memᴰ zero_asked ks)
       → WrongNames ks → ((i : ℕ) (x : Piece) → Answered ks sp w (found i x)) → Answered ks sp w (naming sp w zero a z found)
-  unfolding naming named_in when_named
-  naming_answered zero a z found i j n h = refusing_answered _ i (named zero j (find_in a z 0 (entries_of sp w)))
+  unfolding naming when_named refusing
+  naming_answered zero a z found i j n h = refusing_answered _ i (asked zero j)
     where
-      named : (t : Bool) → (t ≡ true → Memᴰ zero_asked ks) → (f : Found) → Answered ks sp w (when_named sp w found (cond t (Not NoBytes) (named_as f)))
-      named true j f = refused_answered (j refl)
-      named false j (finding.At k x) = h k x
-      named false j finding.BeyondEnd = refused_answered n.beyond
-      named false j finding.InFree = refused_answered n.free
-      named false j finding.InsideLive = refused_answered n.inside
-      named false j finding.OtherSize = refused_answered n.other
+      named : (f : Found) → Answered ks sp w (when_named sp w found f)
+      named (Ok (k, x)) = h k x
+      named (Err finding.BeyondEnd) = refused_answered n.beyond
+      named (Err finding.InFree) = refused_answered n.free
+      named (Err finding.InsideLive) = refused_answered n.inside
+      named (Err finding.OtherSize) = refused_answered n.other
+
+      -- a 4 that comes is among the numbers
+      asked : (t : Bool) → (t ≡ true → Memᴰ zero_asked ks)
+          → Answered ks sp w (refusing plain sp w t zero_asked (when_named sp w found (find_in a z 0 (entries_of sp w))))
+      asked true j = refused_answered (j refl)
+      asked false j = named (find_in a z 0 (entries_of sp w))
 
   -- an extend's new size, by what its two tests say, and a shorten's
   longer_answered : (a z m : ℕ) (room beyond : Bool) → Memᴰ no_room_behind ks → Memᴰ beyond_limit ks → Memᴰ table_full ks
-      → Answered ks sp w (resized_to sp a z w (cond (not room) (Kept NoRoomBehind) (cond beyond (Kept BeyondLimit) (Bytes (z + m)))))
+      → Answered ks sp w (resized_to sp a z w (cond (not room) (Err NoRoomBehind) (cond beyond (Err BeyondLimit) (Ok (z + m)))))
   unfolding resized_to
   longer_answered a z m false b i j k = refused_answered i
   longer_answered a z m true true i j k = refused_answered j
   longer_answered a z m true false i j k = settled_answered _ k
 
   shorter_answered : (a z m : ℕ) (left : Bool) → Memᴰ too_little_left ks → Memᴰ table_full ks
-      → Answered ks sp w (resized_to sp a z w (cond (not left) (Kept TooLittleLeft) (Bytes (z - m))))
+      → Answered ks sp w (resized_to sp a z w (cond (not left) (Err TooLittleLeft) (Ok (z - m))))
   unfolding resized_to
   shorter_answered a z m false i k = refused_answered i
   shorter_answered a z m true i k = settled_answered _ k

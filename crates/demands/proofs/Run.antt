@@ -17,7 +17,7 @@ use Rattle.pieces.specs.Words.{entry_at, entries, words, table}
 use Rattle.requests.specs.Requests.{class_for}
 use Rattle.room.specs.Room.{small_roomb, large_roomb, room_behindb, grows_beyondb, remainsb}
 use Rattle.rules.specs.Editing.{insert, remove, resize}
-use Rattle.space.specs.Giving.{named_in, when_named, naming, released_at, released, new_size, resized_to, resized}
+use Rattle.space.specs.Giving.{when_named, naming, released_at, released, new_size, resized_to, resized}
 use Rattle.space.specs.Opening.{opened}
 use Rattle.space.specs.Outcomes.{Outcome, refusing, settled}
 use Rattle.space.specs.Placing.{placed_at, placed, allocated}
@@ -48,7 +48,7 @@ unfolding down up status_of entry_at entries words table
     room_in fits_in best_of best large_place_for small_place_for place_for class_for holdsb told_of find_in
     small_roomb large_roomb room_behindb grows_beyondb remainsb
     insert remove resize refusing settled placed_at placed allocated
-    named_in when_named naming released_at released new_size resized_to resized
+    when_named naming released_at released new_size resized_to resized
     called ran answered played calls_of
 from_start = record { twelve = refl; after_five = refl; after_twelve = refl; exchanged = refl; exchanged_ends = refl }
 

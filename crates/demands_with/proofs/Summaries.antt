@@ -17,8 +17,8 @@ use borrow.Author.Tests.{eqb-true, eqb-false}
 use Rattle.by_value.proofs.WithLaws.{unless_accepted, unless_refused_lem, freshened_not, freshened_done}
 use Rattle.by_value.specs.Told.{Told, told, fresh_number, fresh_said}
 use Rattle.by_value.specs.With.{Agrees, summed, after, opened_with, allocated_with, released_with, extended_with, shortened_with, freshened}
-use Rattle.by_value.specs.declared.FreshAnswer.{FreshAnswer}
-use Rattle.by_value.specs.declared.FreshAnswer.TheVariants as fresh
+use Rattle.by_value.specs.declared.FreshRefusal.{FreshRefusal}
+use Rattle.by_value.specs.declared.FreshRefusal.TheVariants as fresh
 use Rattle.demands.proofs.AnyOrder.{any_order, two_orders}
 use Rattle.demands.proofs.Exactly.{exactly, same}
 use Rattle.demands.proofs.Keeps.{keeps, handed_back_lem, runs}
@@ -41,6 +41,7 @@ use Rattle.space.specs.Opening.{nowhere, opened, default_page, default_limit}
 use Rattle.space.specs.Outcomes.{SoundSpace, soundb, entries_of, Outcome, refused as refusal}
 use Rattle.space.specs.Said.{open_said, allocate_said, release_said, extend_said, shorten_said}
 use Rattle.space.specs.declared.Space.{Space}
+use Rattle.std.specs.Prelude.{Result, Ok, Err}
 use Rattle.table.specs.Local.{rangesb}
 use Rattle.totals.proofs.TallyLaws.{no_entries}
 use Rattle.totals.specs.Summary.{summary_of, no_totals}
@@ -302,13 +303,13 @@ unique_with said u o r r' v v' s s' e e' =
     let one = u o.said r r' v v' (ap (λ t. t.said) e) (ap (λ t. t.said) e') in
     (one.0, one.1, ap (λ t. t.summary) (e ∙ sym e'))
 
-fresh_of : ℕ → FreshAnswer
-fresh_of k = cond (eqb k 0) fresh.Done fresh.NotSound
+fresh_of : ℕ → Result Unit FreshRefusal
+fresh_of k = cond (eqb k 0) (Ok tt) (Err fresh.NotSound)
 
-fresh_back : (a : FreshAnswer) → fresh_of (fresh_number a) ≡ a
+fresh_back : (a : Result Unit FreshRefusal) → fresh_of (fresh_number a) ≡ a
 unfolding fresh_of
-fresh_back fresh.Done = refl
-fresh_back fresh.NotSound = refl
+fresh_back (Ok u) = refl
+fresh_back (Err fresh.NotSound) = refl
 
 fresh_unique : (o : Outcome) → Unique fresh_said o
 fresh_unique =

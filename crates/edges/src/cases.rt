@@ -3,80 +3,57 @@ use call::Call;
 use show::answer::Answer;
 use show::claim::Tally;
 use show::scene::Scene;
-use show::{answer, case, scene};
+use show::{case, scene};
 use space::Space;
 use std::io::Stdout;
-use std::num::wrapping_add_u64;
 
 // That a release, an extend or a shorten is done, and leaves this end.
-pub fn done(
-    stdout: Stdout,
-    t: Tally,
-    text: &[u8],
-    k: u64,
-    s: Scene,
-    call: Call,
-    end: u64,
-) -> Tally {
-    case::answers(stdout, t, text, k, s, call, Answer::Done, end)
+pub fn done(stdout: Stdout, t: Tally, claim: &[u8], s: Scene, call: Call, end: u64) -> Tally {
+    case::answers(stdout, t, claim, s, call, Answer::Done, end)
 }
 
 // That an allocation goes to this address, and leaves this end.
 pub fn placed(
     stdout: Stdout,
     t: Tally,
-    text: &[u8],
-    k: u64,
+    claim: &[u8],
     s: Scene,
     call: Call,
     at: u64,
     end: u64,
 ) -> Tally {
-    case::answers(stdout, t, text, k, s, call, Answer::At(at), end)
+    case::answers(stdout, t, claim, s, call, Answer::At(at), end)
 }
 
 // That the call has this answer, and leaves exactly this state and these words.
 pub fn answers_and_leaves(
     stdout: Stdout,
     t: Tally,
-    text: &[u8],
-    k: u64,
+    claim: &[u8],
     s: Scene,
     call: Call,
     expected: Answer,
     after: Scene,
 ) -> Tally {
     let asked = scene::ask(s, call);
-    let found = asked.answer;
-    if !answer::same_answer(expected, found) {
-        return t.answer(stdout, text, k, expected, found);
+    if expected != asked.answer {
+        return t.equal(stdout, claim, expected, asked.answer);
     }
-    let left = asked.scene;
-    case::same(stdout, t, text, k, after, left)
+    case::same(stdout, t, claim, after, asked.scene)
 }
 
 // That a release, an extend or a shorten is done, and leaves this.
-pub fn leaves(
-    stdout: Stdout,
-    t: Tally,
-    text: &[u8],
-    k: u64,
-    s: Scene,
-    call: Call,
-    after: Scene,
-) -> Tally {
-    answers_and_leaves(stdout, t, text, k, s, call, Answer::Done, after)
+pub fn leaves(stdout: Stdout, t: Tally, claim: &[u8], s: Scene, call: Call, after: Scene) -> Tally {
+    answers_and_leaves(stdout, t, claim, s, call, Answer::Done, after)
 }
 
 // The scene with no entry.
 pub fn none(s: Scene) -> Scene {
-    let given = s.space;
     Scene {
         space: Space {
-            page: given.page,
-            limit: given.limit,
             end: 0,
             count: 0,
+            ..s.space
         },
         words: scene::blank(),
         len: s.len,
@@ -86,15 +63,13 @@ pub fn none(s: Scene) -> Scene {
 // The scene with one entry more, which starts where the last one ends. Its end is the file's.
 pub fn added(s: Scene, size: u64, kind: u64) -> Scene {
     let given = s.space;
-    let words = s.words;
     Scene {
         space: Space {
-            page: given.page,
-            limit: given.limit,
-            end: wrapping_add_u64(given.end, size),
-            count: wrapping_add_u64(given.count, 1),
+            end: given.end.wrapping_add(size),
+            count: given.count.wrapping_add(1),
+            ..given
         },
-        words: scene::with_entry(words, given.count as usize, given.end, size, kind),
+        words: scene::with_entry(s.words, given.count as usize, given.end, size, kind),
         len: s.len,
     }
 }

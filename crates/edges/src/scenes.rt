@@ -11,9 +11,7 @@ use space::place::{METADATA, RAW};
 const LEAST_WORDS: usize = 4 * ENTRY_WORDS;
 
 pub fn opened(page: u64, limit: u64, words: usize) -> Scene {
-    let asked = scene::open(page, limit, words);
-    let scene = asked.scene;
-    scene
+    scene::open(page, limit, words).scene
 }
 
 // Document 01's run before its first step.

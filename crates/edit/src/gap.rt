@@ -23,72 +23,43 @@ pub struct Gap {
     pub m: Class,
 }
 
-// From a up to the next border, but not beyond b.
-fn up_to(p: u64, a: u64, b: u64) -> u64
-    requires { (0 < p) × (a + p ≤ 2 ^ 64) }
-    ensures { result ≡ min b (up p a) }
-{
-    let border = round_up(p, a);
-    if b < border {
-        return b;
-    }
-    border
-}
-
-// From b down to the last border, but not below l.
-fn down_to(p: u64, l: u64, b: u64) -> u64
-    requires { 0 < p }
-    ensures { result ≡ max l (down p b) }
-{
-    let border = round_down(p, b);
-    if border < l {
-        return l;
-    }
-    border
-}
-
 // How far the free bytes from a to b, behind a live piece of class k, are of class k.
+#[tactic(auto, unfolding(table::specs::Fill::lo))]
 fn lo(p: u64, k: Class, a: u64, b: u64) -> u64
     requires { (0 < p) × (a + p ≤ 2 ^ 64) }
     ensures { result ≡ lo p k a b }
 {
     match k {
-        Class::SmallMetadata => up_to(p, a, b),
-        Class::SmallRaw => up_to(p, a, b),
+        Class::SmallMetadata | Class::SmallRaw => b.min(round_up(p, a)),
         Class::Large => a,
     }
 }
 
 // From where the free bytes from l to b, before a live piece of class m, are of class m.
+#[tactic(auto, unfolding(table::specs::Fill::hi))]
 fn hi(p: u64, l: u64, b: u64, m: Class) -> u64
     requires { 0 < p }
     ensures { result ≡ hi p l b m }
 {
     match m {
-        Class::SmallMetadata => down_to(p, l, b),
-        Class::SmallRaw => down_to(p, l, b),
+        Class::SmallMetadata | Class::SmallRaw => l.max(round_down(p, b)),
         Class::Large => b,
     }
 }
 
 // Between a live piece of class k that ends at a and one of class m that starts at b.
+#[tactic(auto, unfolding(crate::specs::New::gap_of))]
 pub fn gap_of(p: u64, k: Class, a: u64, b: u64, m: Class) -> Gap
     requires { (0 < p) × (a + p ≤ 2 ^ 64) }
     ensures { result ≡ gap_of p k a b m }
 {
-    let l = lo(p, k, a, b);
-    let h = hi(p, l, b, m);
-    Gap {
-        a,
-        lo: l,
-        hi: h,
-        b,
-        k,
-        m,
-    }
+    let lo = lo(p, k, a, b);
+    let hi = hi(p, lo, b, m);
+    Gap { a, lo, hi, b, k, m }
 }
 
 // Behind the last live piece, of class k, that ends at a: all is of class k, to the page's end.
+#[tactic(auto, unfolding(crate::specs::New::tail_of))]
 pub fn tail_of(p: u64, k: Class, a: u64) -> Gap
     requires { (0 < p) × (a + p ≤ 2 ^ 64) }
     ensures { result ≡ tail_of p k a }
@@ -105,13 +76,11 @@ pub fn tail_of(p: u64, k: Class, a: u64) -> Gap
 }
 
 // One entry from a to b, if there is a byte between them.
+#[tactic(auto, unfolding(crate::specs::New::free_count))]
 fn count_free(a: u64, b: u64) -> usize
     ensures { result ≡ free_count a b }
 {
-    if a < b {
-        return 1;
-    }
-    0
+    usize::from(a < b)
 }
 
 // How many entries a gap has.
@@ -126,16 +95,16 @@ fn put_free(table: &mut [u64], i: usize, class: Class, a: u64, b: u64) -> usize
     requires { (i + free_count a b) * entry_words ≤ length table.old }
     ensures { Put table.old i (free class a b) result table.new }
 {
-    if a < b {
-        let piece = Piece {
-            address: a,
-            size: b - a,
-            status: Status::Free(class),
-        };
-        put(table, i, piece);
-        return i + 1;
+    if b <= a {
+        return i;
     }
-    i
+    let piece = Piece {
+        address: a,
+        size: b - a,
+        status: Status::Free(class),
+    };
+    put(table, i, piece);
+    i + 1
 }
 
 // The entries from i on become those of a gap. Answers the entry behind them.
@@ -143,9 +112,7 @@ pub fn put_gap(table: &mut [u64], i: usize, gap: Gap) -> usize
     requires { (i + length (gap_entries gap)) * entry_words ≤ length table.old }
     ensures { Put table.old i (gap_entries gap) result table.new }
 {
-    let k = gap.k;
-    let m = gap.m;
-    let middle = put_free(table, i, k, gap.a, gap.lo);
+    let middle = put_free(table, i, gap.k, gap.a, gap.lo);
     let last = put_free(table, middle, Class::Large, gap.lo, gap.hi);
-    put_free(table, last, m, gap.hi, gap.b)
+    put_free(table, last, gap.m, gap.hi, gap.b)
 }

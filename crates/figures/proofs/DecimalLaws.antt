@@ -11,14 +11,14 @@ use native.Mathlib.Omega.{arith}
 use lib.Dec.{leb, ltb}
 use lib.ListN.{length, drop, get_or, drop_of_length-le, length-append}
 use lib.Seq.{drop-cons}
-use borrow.Author.Tests.{le-leb, lt-leb, lt-ltb, le-ltb, ne_eqb, leb-true, ltb-false}
+use borrow.Author.Tests.{le-leb, lt-ltb, le-ltb, ne_eqb, leb-true, ltb-false}
+use Rattle.std.proofs.Common.{Some, None, Ok, Err}
 use Rattle.io.specs.Digits.{last_digits, hex_digit_ascii, IsDigitCount}
 use Rattle.pages.proofs.Numbers.{and_left, and_right}
 use Rattle.figures.specs.Laid.{number_bytes}
-use Rattle.figures.specs.Decimal.{digitb, value_from, too_large, longer_by, fitting, number_said, RoundTrip}
+use Rattle.figures.specs.Decimal.{digitb, value_from, too_large, longer_by, fitting, RoundTrip}
 use Rattle.script.specs.Line.{every}
-use Rattle.figures.specs.declared.numbers.Longer.TheVariants.{To, Beyond}
-use Rattle.figures.specs.declared.numbers.Number.TheVariants.{Is, TooLarge}
+use Rattle.figures.specs.declared.numbers.NumberError.TheVariants.{TooLarge}
 
 -- ---- the value
 
@@ -35,12 +35,10 @@ unfolding value_from
 value_le v [] = omega arith
 value_le v (x ∷ xs) = omega (arith, value_le (v * 10 + (x - 48)) xs)
 
-pub fitting_large : (n : ℕ) → too_large ≤ n → fitting n ≡ TooLarge
-unfolding fitting
+pub fitting_large : (n : ℕ) → too_large ≤ n → fitting n ≡ Err TooLarge
 fitting_large n h = rw (le-ltb n too_large h)
 
-pub fitting_is : (n : ℕ) → n < too_large → fitting n ≡ Is n
-unfolding fitting
+pub fitting_is : (n : ℕ) → n < too_large → fitting n ≡ Ok n
 fitting_is n h = rw (lt-ltb n too_large h)
 
 -- ---- the round trip
@@ -51,7 +49,6 @@ value_snoc v [] d = refl
 value_snoc v (x ∷ xs) d = value_snoc (v * 10 + (x - 48)) xs d
 
 every_snoc : (p : ℕ → Bool) (xs : List ℕ) (d : ℕ) → every p xs ≡ true → p d ≡ true → every p (xs ++ (d ∷ [])) ≡ true
-unfolding every
 every_snoc p [] d h t = rw t
 every_snoc p (x ∷ xs) d h t = rw (and_left (p x) (every p xs) h) (every_snoc p xs d (and_right (p x) (every p xs) h) t)
 
@@ -68,7 +65,6 @@ digits_value (suc k) n h =
     ∙ rw (digits_value k (n / 10) less, glyph_digit n) (omega (arith, div-add-mod' n 10))
 
 pub digits_every : (k n : ℕ) → every digitb (last_digits 10 k n) ≡ true
-unfolding every
 digits_every zero n = refl
 digits_every (suc k) n =
     let ten : 0 < 10 = omega arith in
@@ -81,40 +77,28 @@ digits_some zero n h = omega arith
 digits_some (suc k) n h = omega (arith, length-append (last_digits 10 k (n / 10)) (hex_digit_ascii (n % 10) ∷ []))
 
 pub round_trip : RoundTrip
-unfolding number_said
 round_trip n k h f =
     let some = digits_some k n f.0 in
     rw (ne_eqb (length (last_digits 10 k n)) 0 (λ e. omega arith), digits_every k n, digits_value k n f.1) (fitting_is n h)
 
 -- ---- digits
 
-pub digit_before : (b : ℕ) → b < 48 → digitb b ≡ false
-digit_before b h = rw (lt-leb 48 b h)
-
-pub digit_from : (b : ℕ) → 48 ≤ b → digitb b ≡ leb b 57
-digit_from b h = rw (le-leb 48 b h)
-
 pub digit_low : (b : ℕ) → digitb b ≡ true → 48 ≤ b
 digit_low b h = leb-true 48 b (and_left (leb 48 b) (leb b 57) h)
 
-pub digit_high : (b : ℕ) → digitb b ≡ true → b ≤ 57
-digit_high b h = leb-true b 57 (and_right (leb 48 b) (leb b 57) h)
-
 -- ---- one more digit
 
-pub longer_to : (v d n : ℕ) → longer_by v d ≡ To n → n ≡ v * 10 + d
-unfolding longer_by
+pub longer_to : (v d n : ℕ) → longer_by v d ≡ Some n → n ≡ v * 10 + d
 longer_to v d n e = by (ltb (v * 10 + d) too_large) e
   where
-    by : (b : Bool) → cond b (To (v * 10 + d)) Beyond ≡ To n → n ≡ v * 10 + d
+    by : (b : Bool) → cond b (Some (v * 10 + d)) None ≡ Some n → n ≡ v * 10 + d
     by true g = cc
     by false g = let z : ◌≡◌ {A = ℕ} 0 1 = cc in absurd (omega arith)
 
-pub longer_beyond : (v d : ℕ) → longer_by v d ≡ Beyond → too_large ≤ v * 10 + d
-unfolding longer_by
+pub longer_beyond : (v d : ℕ) → longer_by v d ≡ None → too_large ≤ v * 10 + d
 longer_beyond v d e = ltb-false (v * 10 + d) too_large (by (ltb (v * 10 + d) too_large) e)
   where
-    by : (b : Bool) → cond b (To (v * 10 + d)) Beyond ≡ Beyond → b ≡ false
+    by : (b : Bool) → cond b (Some (v * 10 + d)) None ≡ None → b ≡ false
     by true g = let z : ◌≡◌ {A = ℕ} 0 1 = cc in absurd (omega arith)
     by false g = refl
 

@@ -10,12 +10,10 @@
 --   RoundTrip          what `io::decimal` prints of a number says that number
 --
 -- Laws, and the proof of RoundTrip, are in proofs/DecimalLaws.antt.
-use Rattle.std.specs.Prelude.{◌≡◌, Bool, cond, ◌&&◌, List, [], ◌∷◌, ℕ, ◌+◌, ◌-◌, ◌*◌, ◌<◌, leb, ltb, eqb, length}
+use Rattle.std.specs.Prelude.{◌≡◌, Option, Some, None, Result, Ok, Err, Bool, cond, ◌&&◌, List, [], ◌∷◌, ℕ, ◌+◌, ◌-◌, ◌*◌, ◌<◌, leb, ltb, eqb, length}
 use Rattle.io.specs.Digits.{last_digits, IsDigitCount}
-use Rattle.figures.specs.declared.numbers.Number.{Number}
-use Rattle.figures.specs.declared.numbers.Number.TheVariants.{Is, TooLarge, NoNumber}
-use Rattle.figures.specs.declared.numbers.Longer.{Longer}
-use Rattle.figures.specs.declared.numbers.Longer.TheVariants.{To, Beyond}
+use Rattle.figures.specs.declared.numbers.NumberError.{NumberError}
+use Rattle.figures.specs.declared.numbers.NumberError.TheVariants.{TooLarge, NoNumber}
 use Rattle.script.specs.Line.{every}
 
 abbrev pub digitb : ℕ → Bool
@@ -28,14 +26,14 @@ value_from v (x ∷ xs) = value_from (v * 10 + (x - 48)) xs
 abbrev pub too_large : ℕ
 too_large = 18446744073709551616
 
-unfoldable pub longer_by : ℕ → ℕ → Longer
-longer_by v d = cond (ltb (v * 10 + d) too_large) (To (v * 10 + d)) Beyond
+abbrev pub longer_by : ℕ → ℕ → Option ℕ
+longer_by v d = cond (ltb (v * 10 + d) too_large) (Some (v * 10 + d)) None
 
-unfoldable pub fitting : ℕ → Number
-fitting n = cond (ltb n too_large) (Is n) TooLarge
+abbrev pub fitting : ℕ → Result ℕ NumberError
+fitting n = cond (ltb n too_large) (Ok n) (Err TooLarge)
 
-unfoldable pub number_said : List ℕ → Number
-number_said xs = cond (eqb (length xs) 0) NoNumber (cond (every digitb xs) (fitting (value_from 0 xs)) NoNumber)
+abbrev pub number_said : List ℕ → Result ℕ NumberError
+number_said xs = cond (eqb (length xs) 0) (Err NoNumber) (cond (every digitb xs) (fitting (value_from 0 xs)) (Err NoNumber))
 
 abbrev pub RoundTrip : Type 0
-RoundTrip = (n k : ℕ) → n < too_large → IsDigitCount 10 1 n k → number_said (last_digits 10 k n) ≡ Is n
+RoundTrip = (n k : ℕ) → n < too_large → IsDigitCount 10 1 n k → number_said (last_digits 10 k n) ≡ Ok n

@@ -10,15 +10,13 @@
 --   SignedRoundTrip    a number's sign, and what `io::decimal` prints of its distance from 0, say that number
 --
 -- Laws, and the proof of SignedRoundTrip, are in proofs/SignedLaws.antt.
-use Rattle.std.specs.Prelude.{◌≡◌, cond, List, [], ◌∷◌, ◌++◌, ℕ, leb, ltb, eqb, ℤ, pos, negsuc, neg_ℤ, nat_abs}
+use Rattle.std.specs.Prelude.{◌≡◌, Result, Ok, Err, cond, List, [], ◌∷◌, ◌++◌, ℕ, leb, ltb, eqb, ℤ, pos, negsuc, neg_ℤ, nat_abs}
 use Rattle.std.specs.Int.{w64}
 use Rattle.std.proofs.Common.{SFits}
 use Rattle.io.specs.Digits.{last_digits, IsDigitCount}
 use Rattle.figures.specs.Decimal.{number_said}
-use Rattle.figures.specs.declared.numbers.Number.{Number}
-use Rattle.figures.specs.declared.numbers.Number.TheVariants as number
-use Rattle.figures.specs.declared.signed.Signed.{Signed}
-use Rattle.figures.specs.declared.signed.Signed.TheVariants.{Is, TooLarge, NoNumber}
+use Rattle.figures.specs.declared.numbers.NumberError.{NumberError}
+use Rattle.figures.specs.declared.numbers.NumberError.TheVariants.{TooLarge, NoNumber}
 
 abbrev pub minus : ℕ
 minus = 45
@@ -26,18 +24,16 @@ minus = 45
 abbrev pub most_below : ℕ
 most_below = 9223372036854775808
 
-unfoldable pub positive : Number → Signed
-positive (number.Is n) = cond (ltb n most_below) (Is (pos n)) TooLarge
-positive number.TooLarge = TooLarge
-positive number.NoNumber = NoNumber
+abbrev pub positive : Result ℕ NumberError → Result ℤ NumberError
+positive (Ok n) = cond (ltb n most_below) (Ok (pos n)) (Err TooLarge)
+positive (Err why) = Err why
 
-unfoldable pub negative : Number → Signed
-negative (number.Is n) = cond (leb n most_below) (Is (neg_ℤ (pos n))) TooLarge
-negative number.TooLarge = TooLarge
-negative number.NoNumber = NoNumber
+abbrev pub negative : Result ℕ NumberError → Result ℤ NumberError
+negative (Ok n) = cond (leb n most_below) (Ok (neg_ℤ (pos n))) (Err TooLarge)
+negative (Err why) = Err why
 
-unfoldable pub signed_said : List ℕ → Signed
-signed_said [] = NoNumber
+abbrev pub signed_said : List ℕ → Result ℤ NumberError
+signed_said [] = Err NoNumber
 signed_said (x ∷ xs) = cond (eqb x minus) (negative (number_said xs)) (positive (number_said (x ∷ xs)))
 
 abbrev pub sign_of : ℤ → List ℕ
@@ -45,4 +41,4 @@ sign_of (pos n) = []
 sign_of (negsuc n) = minus ∷ []
 
 abbrev pub SignedRoundTrip : Type 0
-SignedRoundTrip = (z : ℤ) (k : ℕ) → SFits w64 z → IsDigitCount 10 1 (nat_abs z) k → signed_said (sign_of z ++ last_digits 10 k (nat_abs z)) ≡ Is z
+SignedRoundTrip = (z : ℤ) (k : ℕ) → SFits w64 z → IsDigitCount 10 1 (nat_abs z) k → signed_said (sign_of z ++ last_digits 10 k (nat_abs z)) ≡ Ok z

@@ -1,61 +1,37 @@
 // Bytes as hexadecimal text: two digits to a byte, the higher one first.
-ghost use Rattle.std.specs.Prelude.{◌≡◌, true, ◌/◌, ◌≤◌, ◌<◌, length};
+ghost use Rattle.std.specs.Prelude.{◌≡◌, true, IfSome, ◌/◌, ◌≤◌, ◌<◌, length};
 ghost use Rattle.std.proofs.Math.Seq.{paste};
 ghost use Rattle.script.specs.Line.{every};
-ghost use Rattle.figures.specs.Hex.{no_nibble, nibble_of, nibbleb, hexb, bytes_said, glyph_of};
+ghost use Rattle.figures.specs.Hex.{no_nibble, nibble_said, nibbleb, hexb, bytes_said, glyph_of};
 
 const BASE: u8 = 16;
 
-// No digit has this value.
-const NO_DIGIT: u8 = 16;
-
-// The value of a hexadecimal digit, small or capital.
-pub fn nibble(byte: u8) -> u8
-    ensures { (result ≡ nibble_of byte) × (result ≤ no_nibble) }
+// The value of a hexadecimal digit, small or capital, if the byte is one.
+#[tactic(auto, unfolding(crate::specs::Hex::nibble_of))]
+pub fn nibble(byte: u8) -> Option<u8>
+    ensures value { result ≡ nibble_said byte }
+    ensures below { IfSome result (λ v. v < no_nibble) }
 {
-    if byte < b'0' {
-        return NO_DIGIT;
+    match byte {
+        b'0'..=b'9' => Some(byte - b'0'),
+        b'A'..=b'F' => Some(byte - b'A' + 10),
+        b'a'..=b'f' => Some(byte - b'a' + 10),
+        _ => None,
     }
-    if byte <= b'9' {
-        return byte - b'0';
-    }
-    if byte < b'A' {
-        return NO_DIGIT;
-    }
-    if byte <= b'F' {
-        return byte - b'A' + 10;
-    }
-    if byte < b'a' {
-        return NO_DIGIT;
-    }
-    if byte <= b'f' {
-        return byte - b'a' + 10;
-    }
-    NO_DIGIT
 }
 
 // Whether every byte is a hexadecimal digit.
 pub fn are_nibbles(word: &[u8]) -> bool
     ensures { result ≡ every nibbleb word.now }
 {
-    let mut i = 0;
-    while i < word.len() {
-        if nibble(word[i]) == NO_DIGIT {
-            return false;
-        }
-        i += 1;
-    }
-    true
+    word.iter().all(|byte| nibble(*byte).is_some())
 }
 
 // Whether a word says bytes.
 pub fn is_hex(word: &[u8]) -> bool
     ensures { result ≡ hexb word.now }
 {
-    if word.len() % 2 != 0 {
-        return false;
-    }
-    are_nibbles(word)
+    word.len() % 2 == 0 && are_nibbles(word)
 }
 
 // The bytes that a word says, laid to the front of `out`.
@@ -63,11 +39,8 @@ pub fn unhex(word: &[u8], out: &mut [u8])
     requires { (hexb word.now ≡ true) × (length word.now / 2 ≤ length out.old) }
     ensures { out.new ≡ paste out.old 0 (bytes_said word.now) (length word.now / 2) }
 {
-    let n = word.len() / 2;
-    let mut i = 0;
-    while i < n {
-        out[i] = nibble(word[i * 2]) * BASE + nibble(word[i * 2 + 1]);
-        i += 1;
+    for i in 0..word.len() / 2 {
+        out[i] = nibble(word[i * 2]).unwrap() * BASE + nibble(word[i * 2 + 1]).unwrap();
     }
 }
 
@@ -77,7 +50,8 @@ pub fn digit(value: u8) -> u8
     ensures { result ≡ glyph_of value }
 {
     if value < 10 {
-        return b'0' + value;
+        b'0' + value
+    } else {
+        b'a' + (value - 10)
     }
-    b'a' + (value - 10)
 }

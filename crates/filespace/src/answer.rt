@@ -1,218 +1,142 @@
 // One line: its call is named, its words are counted, its numbers are read, and then the call is made. What is wrong is said, and changes nothing.
-ghost use Rattle.std.specs.Prelude.{◌≡◌, ◌≤◌, length};
-ghost use Rattle.filespace.specs.Lent.{line_bytes, table_words, Within};
+ghost use Rattle.std.specs.Prelude.{◌≤◌, length};
+ghost use Rattle.filespace.specs.Lent.{line_bytes, table_words};
 
 use crate::calls::Call;
 use crate::carry::Run;
 use crate::run_summary::TOTALS;
+use crate::wrong::Wrong;
 use crate::{TABLE_WORDS, calls, give, info, run_summary};
-use figures::numbers::Number;
-use figures::signed::Signed;
+use figures::numbers::number_of;
+use figures::signed::signed_of;
 use say::{map, report, sheet, tables};
-use std::io::Stdout;
-
-// The numbers of a line: read up to a place, or why not.
-#[derive(Clone, Copy)]
-pub enum Numbers {
-    To(usize),
-    TooLarge,
-    NoNumber,
-}
+use script::words::next_word;
 
 // What a word says: a name of the call, or a number.
-fn word_number(call: Call, is_first: bool, word: &[u8]) -> Number {
-    if is_first {
-        let code = calls::named(call, word);
-        if code != 0 {
-            return Number::Is(code);
-        }
+fn word_number(call: Call, is_first: bool, word: &[u8]) -> Result<u64, Wrong> {
+    match call.named(word) {
+        Some(code) if is_first => Ok(code),
+        _ => Ok(number_of(word)?),
     }
-    figures::numbers::number_of(word)
 }
 
-// The numbers of the first `count` words from `from` on.
-fn read_numbers(call: Call, line: &[u8], from: usize, count: usize, args: &mut [u64]) -> Numbers
-    requires { (from ≤ length line.now) × (count ≤ length args.old) }
-    ensures { Within result (length line.now) }
-{
-    let mut at = from;
-    let mut i = 0;
-    while i < count {
-        let word = script::words::next_word(line, at);
-        let start = word.from;
-        let end = word.to;
-        match word_number(call, i == 0, &line[start..end]) {
-            Number::Is(n) => {
-                args[i] = n;
-            }
-            Number::TooLarge => {
-                return Numbers::TooLarge;
-            }
-            Number::NoNumber => {
-                return Numbers::NoNumber;
-            }
-        }
-        at = end;
-        i += 1;
+// As many numbers as there are places for them, and what stands behind them.
+fn read_numbers<'a>(call: Call, line: &'a [u8], args: &mut [u64]) -> Result<&'a [u8], Wrong> {
+    let mut rest = line;
+    for i in 0..args.len() {
+        let (word, behind) = next_word(rest);
+        args[i] = word_number(call, i == 0, word)?;
+        rest = behind;
     }
-    Numbers::To(at)
+    Ok(rest)
 }
 
-// The call on its numbers.
+// The call on its `count` numbers.
 fn play(
-    stdout: Stdout,
     run: Run,
     call: Call,
     count: usize,
     args: &[u64; TABLE_WORDS],
     table: &mut [u64; TABLE_WORDS],
-) -> Run
-    requires { (run.used ≤ table_words) × (count ≤ table_words) }
-    ensures { result.used ≤ table_words }
+) -> Result<Run, Wrong>
+    requires { count ≤ table_words }
 {
     match call {
-        Call::Open | Call::Default => give::open(stdout, run, call, args, table),
-        Call::List => {
-            give::list(stdout, run, args, table);
-            run
-        }
-        Call::State => give::state(stdout, run, args),
-        Call::Words => give::words(stdout, run, count, args, table),
-        Call::Write => {
-            info::write(stdout, run.line, args);
-            run
-        }
-        _ => give::change(stdout, run, call, args, table),
+        Call::Open | Call::Default => give::open(run, call, args, table),
+        Call::List => give::list(run, args, table),
+        Call::State => Ok(give::state(run, args)),
+        Call::Words => Ok(give::words(run, count, args, table)),
+        Call::Write => info::write(run, args),
+        _ => Ok(give::change(run, call, args, table)),
     }
 }
 
 fn answer_numbers(
-    stdout: Stdout,
     run: Run,
     call: Call,
     line: &[u8],
-    from: usize,
     count: usize,
     table: &mut [u64; TABLE_WORDS],
-) -> Run
-    requires { (run.used ≤ table_words) × (from ≤ length line.now) }
-    ensures { result.used ≤ table_words }
-{
+) -> Result<Run, Wrong> {
     let mut args = [0u64; TABLE_WORDS];
     if TABLE_WORDS < count {
-        report::wrong(stdout, run.line, b"too many");
-        return run;
+        return Err(Wrong::TooMany);
     }
-    match read_numbers(call, line, from, count, &mut args) {
-        Numbers::To(_) => {
-            return play(stdout, run, call, count, &args, table);
-        }
-        Numbers::TooLarge => report::too_large(stdout, run.line),
-        Numbers::NoNumber => report::no_number(stdout, run.line),
-    }
-    run
+    read_numbers(call, line, &mut args[..count])?;
+    play(run, call, count, &args, table)
 }
 
-// The last number of a summary, behind its totals.
-fn answer_moved(stdout: Stdout, run: Run, totals: &[u64; TOTALS], line: &[u8], from: usize) -> Run
-    requires { from ≤ length line.now }
-    ensures { result.used ≡ run.used }
-{
-    let word = script::words::next_word(line, from);
-    let start = word.from;
-    let end = word.to;
-    match figures::signed::signed_of(&line[start..end]) {
-        Signed::Is(moved) => {
-            return run_summary::set(stdout, run, totals, moved);
-        }
-        Signed::TooLarge => report::too_large(stdout, run.line),
-        Signed::NoNumber => report::no_number(stdout, run.line),
-    }
-    run
-}
-
-// The numbers of a summary.
-fn answer_summary(stdout: Stdout, run: Run, line: &[u8], from: usize) -> Run
-    requires { from ≤ length line.now }
-    ensures { result.used ≡ run.used }
-{
+// The numbers of a summary, of which the last has a sign.
+fn answer_summary(run: Run, line: &[u8]) -> Result<Run, Wrong> {
     let mut totals = [0u64; TOTALS];
-    match read_numbers(Call::Summary, line, from, TOTALS, &mut totals) {
-        Numbers::To(end) => {
-            return answer_moved(stdout, run, &totals, line, end);
-        }
-        Numbers::TooLarge => report::too_large(stdout, run.line),
-        Numbers::NoNumber => report::no_number(stdout, run.line),
-    }
-    run
+    let rest = read_numbers(Call::Summary, line, &mut totals)?;
+    let (word, _) = next_word(rest);
+    let moved = signed_of(word)?;
+    Ok(run_summary::set(run, &totals, moved))
 }
 
 // The one word that `show` takes.
-fn show(stdout: Stdout, run: Run, line: &[u8], from: usize, table: &[u64])
-    requires { (from ≤ length line.now) × (run.used ≤ length table.now) }
-{
-    let word = script::words::next_word(line, from);
-    let start = word.from;
-    let end = word.to;
-    if script::words::is_text(&line[start..end], b"words") {
-        tables::show_words(stdout, run.used, table);
-        return;
+fn show(run: Run, line: &[u8], table: &[u64]) -> Result<Run, Wrong> {
+    let (word, _) = next_word(line);
+    match word {
+        b"words" => tables::show_words(run.stdout, table),
+        b"summary" => sheet::numbers(run.stdout, run.summary),
+        _ => return Err(Wrong::NoCall),
     }
-    if script::words::is_text(&line[start..end], b"summary") {
-        sheet::numbers(stdout, run.summary);
-        return;
-    }
-    report::wrong(stdout, run.line, b"no call");
+    Ok(run)
 }
 
-fn read(stdout: Stdout, number: u64, line: &[u8], from: usize)
-    requires { (from ≤ length line.now) × (length line.now ≤ line_bytes) }
+fn read(run: Run, line: &[u8]) -> Result<Run, Wrong>
+    requires { length line.now ≤ line_bytes }
 {
-    let word = script::words::next_word(line, from);
-    let start = word.from;
-    let end = word.to;
-    info::read(stdout, number, &line[start..end]);
+    let (word, _) = next_word(line);
+    info::read(run, word)
 }
 
-// A call that changes nothing, and reads no numbers.
-fn look(stdout: Stdout, run: Run, call: Call, line: &[u8], from: usize, table: &[u64])
-    requires { (run.used ≤ length table.now) × ((from ≤ length line.now) × (length line.now ≤ line_bytes)) }
+// The call, on the rest of its line.
+fn ask(
+    run: Run,
+    call: Call,
+    line: &[u8],
+    count: usize,
+    table: &mut [u64; TABLE_WORDS],
+) -> Result<Run, Wrong>
+    requires { length line.now ≤ line_bytes }
 {
+    let used = run.used;
     match call {
-        Call::Table => tables::table(stdout, run.space, run.used, table),
-        Call::Map => map::map(stdout, run.space, run.used, table),
-        Call::Sheet => sheet::sheet(stdout, run.summary),
-        Call::Show => show(stdout, run, line, from, table),
-        Call::Read => read(stdout, run.line, line, from),
-        _ => report::wrong(stdout, run.line, b"no call"),
+        Call::Table => tables::table(run.stdout, run.space, &table[..used]),
+        Call::Map => map::map(run.stdout, run.space, &table[..used]),
+        Call::Sheet => sheet::sheet(run.stdout, run.summary),
+        Call::Show => return show(run, line, &table[..used]),
+        Call::Read => return read(run, line),
+        Call::Summary => return answer_summary(run, line),
+        Call::Fresh => return Ok(run_summary::fresh(run, table)),
+        _ => return answer_numbers(run, call, line, count, table),
     }
+    Ok(run)
 }
 
-pub fn answer(stdout: Stdout, run: Run, line: &[u8], table: &mut [u64; TABLE_WORDS]) -> Run
-    requires { (run.used ≤ table_words) × (length line.now ≤ line_bytes) }
-    ensures { result.used ≤ table_words }
+fn answered(run: Run, line: &[u8], table: &mut [u64; TABLE_WORDS]) -> Result<Run, Wrong>
+    requires { length line.now ≤ line_bytes }
 {
-    let word = script::words::next_word(line, 0);
-    let start = word.from;
-    let end = word.to;
-    if start == end {
-        return run;
+    let (word, rest) = next_word(line);
+    if word.is_empty() {
+        return Ok(run);
     }
-    let call = calls::call_of(&line[start..end]);
-    let count = script::words::count_words(line, end);
-    if !calls::takes(call, count) {
-        report::wrong(stdout, run.line, b"wrong count of words");
-        return run;
+    let call = calls::call_of(word).ok_or(Wrong::NoCall)?;
+    let count = script::words::count_words(rest);
+    if !call.takes(count) {
+        return Err(Wrong::Count);
     }
-    if calls::reads_numbers(call) {
-        return answer_numbers(stdout, run, call, line, end, count, table);
-    }
-    match call {
-        Call::Summary => answer_summary(stdout, run, line, end),
-        Call::Fresh => run_summary::fresh(stdout, run, table),
-        _ => {
-            look(stdout, run, call, line, end, table);
-            run
-        }
-    }
+    ask(run, call, rest, count, table)
+}
+
+pub fn answer(run: Run, line: &[u8], table: &mut [u64; TABLE_WORDS]) -> Run
+    requires { length line.now ≤ line_bytes }
+{
+    answered(run, line, table).unwrap_or_else(|why| {
+        report::wrong(run.stdout, run.line, why);
+        run
+    })
 }

@@ -1,35 +1,53 @@
 // What a run carries from line to line.
-ghost use Rattle.std.specs.Prelude.{◌≡◌};
+ghost use Rattle.std.specs.Prelude.{◌≡◌, ◌≤◌};
+ghost use Rattle.filespace.specs.Lent.{table_words};
 
 use space::Space;
+use std::io::Stdout;
 use totals::Summary;
 
 #[derive(Clone, Copy)]
 pub struct Run {
+    pub stdout: Stdout,
     // The state that the next call gets, how many words the lent table has, and the summary that is lent beside it.
     pub space: Space,
     pub used: usize,
     pub summary: Summary,
-    // The number of the line, how many of its bytes are there, and whether it has more than a line may have.
+    // The number of the line, and how many bytes it has so far, of which those are kept that a line may have.
     pub line: u64,
     pub filled: usize,
-    pub is_long: bool,
-    // Whether the input is over.
-    pub is_over: bool,
+    ghost lent: { used ≤ table_words },
 }
 
 impl Run {
+    // Four zeros over a table of no words, and a summary of zeros.
+    pub fn at_first(stdout: Stdout) -> Run {
+        Run {
+            stdout,
+            space: Space {
+                page: 0,
+                limit: 0,
+                end: 0,
+                count: 0,
+            },
+            used: 0,
+            summary: totals::no_totals(),
+            line: 1,
+            filled: 0,
+        }
+    }
+
     pub fn next_line(mut self) -> Run
         ensures { (result.used ≡ self.used) × (result.filled ≡ 0) }
     {
-        self.line = std::num::wrapping_add_u64(self.line, 1);
+        self.line = self.line.wrapping_add(1);
         self.filled = 0;
-        self.is_long = false;
         self
     }
 
     // The lent table has so many words, and the next call gets this state.
-    pub fn lent(mut self, space: Space, used: usize) -> Run
+    pub(crate) fn lent(mut self, space: Space, used: usize) -> Run
+        requires { used ≤ table_words }
         ensures { (result.used ≡ used) × (result.filled ≡ self.filled) }
     {
         self.space = space;

@@ -1,46 +1,33 @@
 // The calls on a space, each answered in one line. All but the listing get the run's summary, and leave it to the next call.
-ghost use Rattle.std.specs.Prelude.{◌≡◌, ◌≤◌, length};
+ghost use Rattle.std.specs.Prelude.{◌≡◌, ◌≤◌};
 ghost use Rattle.filespace.specs.Lent.{table_words};
 
 use crate::calls::Call;
 use crate::carry::Run;
+use crate::wrong::Wrong;
 use crate::{MOST_ENTRIES, MOST_ROOM, TABLE_WORDS};
 use by_value::{Change, Named, Pages, Request};
-use own_summary::{OpenedOn, ResizedOn};
+use own_summary::On;
 use pieces::ENTRY_WORDS;
 use say::report;
+use say::report::Verdict;
 use sections::PAIR_WORDS;
 use space::Space;
-use space::answers::{
-    DONE, address_of, allocate_number, count_of, list_number, open_number, release_number,
-    resize_number,
-};
+use space::answers::{Answered, Opened, Refusal};
 use std::io::Stdout;
 use totals::Summary;
 
-// The words of a table that is lent anew.
-fn clear(table: &mut [u64]) {
-    let mut i = 0;
-    while i < table.len() {
-        table[i] = 0;
-        i += 1;
-    }
-}
-
 // An opening is answered, and the next call gets what it left.
-fn told_opened(stdout: Stdout, run: Run, used: usize, r: OpenedOn) -> Run
-    ensures { result.used ≡ used }
+fn told_opened(run: Run, used: usize, r: On<Opened>) -> Run
+    requires { used ≤ table_words }
 {
-    let done = r.opened;
-    let space = done.space;
-    let answer = done.answer;
-    let summary = r.summary;
-    report::told(stdout, space, open_number(answer));
-    run.lent(space, used).after(space, summary)
+    let done = r.answered;
+    report::told(run.stdout, done);
+    run.lent(done.space, used).after(done.space, r.summary)
 }
 
 // The opening that the call is.
-fn opened(call: Call, args: &[u64; TABLE_WORDS], table: &mut [u64], given: Summary) -> OpenedOn {
+fn opened(call: Call, args: &[u64; TABLE_WORDS], table: &mut [u64], given: Summary) -> On<Opened> {
     match call {
         Call::Default => own_summary::open_default(table, given),
         _ => {
@@ -61,26 +48,21 @@ fn entries_named(call: Call, args: &[u64; TABLE_WORDS]) -> u64 {
     }
 }
 
+// The table is lent anew: its words are 0.
 pub fn open(
-    stdout: Stdout,
     run: Run,
     call: Call,
     args: &[u64; TABLE_WORDS],
-    table: &mut [u64],
-) -> Run
-    requires { (run.used ≤ table_words) × (length table.old ≡ table_words) }
-    ensures { result.used ≤ table_words }
-{
+    table: &mut [u64; TABLE_WORDS],
+) -> Result<Run, Wrong> {
     let entries = entries_named(call, args);
     if (MOST_ENTRIES as u64) < entries {
-        report::wrong(stdout, run.line, b"too many");
-        return run;
+        return Err(Wrong::TooMany);
     }
-    clear(table);
+    table.fill(0);
     let used = entries as usize * ENTRY_WORDS;
-    let given = run.summary;
-    let r = opened(call, args, &mut table[..used], given);
-    told_opened(stdout, run, used, r)
+    let r = opened(call, args, &mut table[..used], run.summary);
+    Ok(told_opened(run, used, r))
 }
 
 // The piece that a call names, and by how much it changes.
@@ -92,124 +74,88 @@ fn change_of(args: &[u64; TABLE_WORDS]) -> Change {
     }
 }
 
-fn allocate(stdout: Stdout, run: Run, args: &[u64; TABLE_WORDS], table: &mut [u64]) -> Run
-    ensures { result.used ≡ run.used }
-{
+fn allocate(run: Run, args: &[u64; TABLE_WORDS], table: &mut [u64]) -> Run {
     let request = Request {
         code: args[0],
         size: args[1],
     };
-    let space = run.space;
-    let given = run.summary;
-    let r = own_summary::allocate(space, table, given, request);
-    let done = r.allocated;
-    let now = done.space;
-    let answer = done.answer;
-    let summary = r.summary;
-    report::placed(stdout, now, allocate_number(answer), address_of(answer));
-    run.after(now, summary)
+    let r = own_summary::allocate(run.space, table, run.summary, request);
+    let done = r.answered;
+    report::placed(run.stdout, done);
+    run.after(done.space, r.summary)
 }
 
-fn release(stdout: Stdout, run: Run, args: &[u64; TABLE_WORDS], table: &mut [u64]) -> Run
-    ensures { result.used ≡ run.used }
-{
+fn release(run: Run, args: &[u64; TABLE_WORDS], table: &mut [u64]) -> Run {
     let named = Named {
         address: args[0],
         size: args[1],
     };
-    let space = run.space;
-    let given = run.summary;
-    let r = own_summary::release(space, table, given, named);
-    let done = r.released;
-    let now = done.space;
-    let answer = done.answer;
-    let summary = r.summary;
-    report::told(stdout, now, release_number(answer));
-    run.after(now, summary)
+    told(
+        run,
+        own_summary::release(run.space, table, run.summary, named),
+    )
 }
 
-// An extend or a shorten is answered, and the next call gets what it left.
-fn told_resized(stdout: Stdout, run: Run, r: ResizedOn) -> Run
-    ensures { result.used ≡ run.used }
-{
-    let done = r.resized;
-    let now = done.space;
-    let answer = done.answer;
-    let summary = r.summary;
-    report::told(stdout, now, resize_number(answer));
-    run.after(now, summary)
+// A call is answered, and the next one gets what it left.
+fn told<T: Copy, E: Refusal>(run: Run, r: On<Answered<T, E>>) -> Run {
+    let done = r.answered;
+    report::told(run.stdout, done);
+    run.after(done.space, r.summary)
 }
 
 // The call, on the lent table with the summary.
-fn ask(stdout: Stdout, run: Run, call: Call, args: &[u64; TABLE_WORDS], table: &mut [u64]) -> Run
-    ensures { result.used ≡ run.used }
-{
-    let space = run.space;
-    let given = run.summary;
-    match call {
-        Call::Allocate => allocate(stdout, run, args, table),
-        Call::Release => release(stdout, run, args, table),
-        Call::Extend => {
-            let r = own_summary::extend(space, table, given, change_of(args));
-            told_resized(stdout, run, r)
-        }
-        _ => {
-            let r = own_summary::shorten(space, table, given, change_of(args));
-            told_resized(stdout, run, r)
-        }
-    }
-}
-
 pub fn change(
-    stdout: Stdout,
     run: Run,
     call: Call,
     args: &[u64; TABLE_WORDS],
-    table: &mut [u64],
-) -> Run
-    requires { (run.used ≤ table_words) × (length table.old ≡ table_words) }
-    ensures { result.used ≤ table_words }
-{
+    table: &mut [u64; TABLE_WORDS],
+) -> Run {
     let used = run.used;
-    ask(stdout, run, call, args, &mut table[..used])
+    let table = &mut table[..used];
+    let given = run.summary;
+    match call {
+        Call::Allocate => allocate(run, args, table),
+        Call::Release => release(run, args, table),
+        Call::Extend => told(
+            run,
+            own_summary::extend(run.space, table, given, change_of(args)),
+        ),
+        _ => told(
+            run,
+            own_summary::shorten(run.space, table, given, change_of(args)),
+        ),
+    }
 }
 
 // The sections that a listing wrote: address and size of each.
 fn say_sections(stdout: Stdout, count: u64, room: &[u64; MOST_ROOM]) {
-    say::number(stdout, count);
-    say::text(stdout, b" sections:");
-    let mut i = 0;
-    while i < MOST_ROOM / PAIR_WORDS && (i as u64) < count {
-        let at = i * PAIR_WORDS;
-        say::labelled(stdout, b" ", room[at]);
-        say::labelled(stdout, b"+", room[at + 1]);
-        i += 1;
+    let _ = print!(stdout; "{count} sections:");
+    for pair in room.chunks_exact(PAIR_WORDS).take(count as usize) {
+        let _ = print!(stdout; " {}+{}", pair[0], pair[1]);
     }
 }
 
-pub fn list(stdout: Stdout, run: Run, args: &[u64; TABLE_WORDS], table: &[u64])
-    requires { run.used ≤ length table.now }
-{
+pub fn list(run: Run, args: &[u64; TABLE_WORDS], table: &[u64; TABLE_WORDS]) -> Result<Run, Wrong> {
+    let stdout = run.stdout;
     let mut room = [0u64; MOST_ROOM];
     if (MOST_ROOM as u64) < args[1] {
-        report::wrong(stdout, run.line, b"too many");
-        return;
+        return Err(Wrong::TooMany);
     }
     let wanted = args[1] as usize;
     let used = run.used;
     let space = run.space;
     let r = space.list(&table[..used], args[0], &mut room[..wanted]);
-    let answer = r.answer;
-    let number = list_number(answer);
-    if number == DONE {
-        say_sections(stdout, count_of(answer), &room);
-    } else {
-        report::say_told(stdout, number);
+    match r.answer {
+        Ok(count) => say_sections(stdout, count, &room),
+        Err(refusal) => {
+            let _ = print!(stdout; "{}", Verdict(refusal.number()));
+        }
     }
-    say::text(stdout, b"\n");
+    let _ = println!(stdout);
+    Ok(run)
 }
 
-pub fn state(stdout: Stdout, run: Run, args: &[u64; TABLE_WORDS]) -> Run
+pub fn state(run: Run, args: &[u64; TABLE_WORDS]) -> Run
     ensures { result.used ≡ run.used }
 {
     let space = Space {
@@ -218,26 +164,19 @@ pub fn state(stdout: Stdout, run: Run, args: &[u64; TABLE_WORDS]) -> Run
         end: args[2],
         count: args[3],
     };
-    say::text(stdout, b"set\n");
+    let _ = println!(run.stdout; "set");
     run.lent(space, run.used)
 }
 
-pub fn copy(from: &[u64], to: &mut [u64])
-    requires { length from.now ≤ length to.old }
+pub fn words(
+    run: Run,
+    count: usize,
+    args: &[u64; TABLE_WORDS],
+    table: &mut [u64; TABLE_WORDS],
+) -> Run
+    requires { count ≤ table_words }
 {
-    let mut i = 0;
-    while i < from.len() {
-        to[i] = from[i];
-        i += 1;
-    }
-}
-
-pub fn words(stdout: Stdout, run: Run, count: usize, args: &[u64], table: &mut [u64]) -> Run
-    requires { (count ≤ table_words) × ((length args.now ≡ table_words) × (length table.old ≡ table_words)) }
-    ensures { result.used ≤ table_words }
-{
-    copy(&args[..count], table);
-    say::text(stdout, b"set\n");
-    let space = run.space;
-    run.lent(space, count)
+    table[..count].copy_from_slice(&args[..count]);
+    let _ = println!(run.stdout; "set");
+    run.lent(run.space, count)
 }

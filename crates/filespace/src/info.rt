@@ -1,20 +1,18 @@
 // The File Space Info message: read out of bytes, and written into lent ones.
-ghost use Rattle.std.specs.Prelude.{◌≡◌, ◌≤◌, true, length};
-ghost use Rattle.filespace.specs.Lent.{WriteFits, line_bytes};
+ghost use Rattle.std.specs.Prelude.{◌≤◌, length};
+ghost use Rattle.filespace.specs.Lent.{line_bytes};
 
+use crate::carry::Run;
+use crate::wrong::Wrong;
 use crate::{MOST_ROOM, TABLE_WORDS};
-use message::{Answer, Fields};
-use say::report;
-use space::answers::DONE;
+use message::Fields;
+use say::report::Verdict;
+use say::{Hex, Words};
 use std::io::Stdout;
 
 const TYPES: usize = 6;
 
 const ROOM_AT: usize = 18;
-
-const MOST_BYTE: u64 = 255;
-
-const MOST_PAGE_END: u64 = 65535;
 
 // A line has two digits for each of so many bytes.
 const BYTES: usize = 50000;
@@ -22,56 +20,47 @@ const BYTES: usize = 50000;
 // The lent bytes before a message is written.
 const LENT: u8 = 0xaa;
 
-fn say_addresses(stdout: Stdout, addresses: &[u64; TYPES]) {
-    say::words(stdout, addresses);
-}
-
 fn say_fields(stdout: Stdout, fields: Fields) {
-    say::labelled(stdout, b"strategy ", fields.strategy as u64);
-    say::labelled(stdout, b"; persist ", fields.persist as u64);
-    say::labelled(stdout, b"; threshold ", fields.threshold);
-    say::labelled(stdout, b"; page ", fields.page);
-    say::labelled(stdout, b"; page-end ", fields.page_end as u64);
-    say::labelled(stdout, b"; eoa ", fields.eoa);
-    say::text(stdout, b"; small");
-    let small = fields.small;
-    say_addresses(stdout, &small);
-    say::text(stdout, b"; large");
-    let large = fields.large;
-    say_addresses(stdout, &large);
+    let Fields {
+        strategy,
+        persist,
+        threshold,
+        page,
+        page_end,
+        eoa,
+        small,
+        large,
+    } = fields;
+    let _ = print!(stdout;
+        "strategy {strategy}; persist {persist}; threshold {threshold}; page {page}; page-end {page_end}; eoa {eoa}; "
+    );
+    let _ = print!(stdout; "small{}; large{}", Words(&small), Words(&large));
 }
 
-// The fields, or the refusal.
-fn say_read(stdout: Stdout, answer: Answer, fields: Fields) {
-    let number = message::number_of(answer);
-    if number == DONE {
-        say_fields(stdout, fields);
-        return;
-    }
-    report::say_told(stdout, number);
-}
-
+// The fields, or the refusal, and how many bytes follow.
 fn say_message(stdout: Stdout, bytes: &[u8]) {
-    let r = message::read(bytes);
-    let answer = r.answer;
-    let fields = r.fields;
-    say_read(stdout, answer, fields);
+    let message = message::read(bytes);
+    match message {
+        Ok(fields) => say_fields(stdout, fields),
+        Err(_) => {
+            let _ = print!(stdout; "{}", Verdict(message::number_of(message)));
+        }
+    }
     let rest = message::rest(bytes);
-    say::labelled(stdout, b"; ", rest.len() as u64);
-    say::text(stdout, b" bytes follow\n");
+    let _ = println!(stdout; "; {} bytes follow", rest.len());
 }
 
-pub fn read(stdout: Stdout, line: u64, word: &[u8])
+pub fn read(run: Run, word: &[u8]) -> Result<Run, Wrong>
     requires { length word.now ≤ line_bytes }
 {
     let mut bytes = [0u8; BYTES];
-    if figures::bytes::is_hex(word) {
-        let n = word.len() / 2;
-        figures::bytes::unhex(word, &mut bytes);
-        say_message(stdout, &bytes[..n]);
-        return;
+    if !figures::bytes::is_hex(word) {
+        return Err(Wrong::NotHex);
     }
-    report::wrong(stdout, line, b"not hex");
+    let n = word.len() / 2;
+    figures::bytes::unhex(word, &mut bytes);
+    say_message(run.stdout, &bytes[..n]);
+    Ok(run)
 }
 
 fn addresses(args: &[u64; TABLE_WORDS], from: usize) -> [u64; TYPES]
@@ -87,53 +76,35 @@ fn addresses(args: &[u64; TABLE_WORDS], from: usize) -> [u64; TYPES]
     ]
 }
 
-fn fits(args: &[u64; TABLE_WORDS]) -> bool
-    ensures { result ≡ true → WriteFits args.now }
-{
-    if MOST_BYTE < args[0] {
-        return false;
-    }
-    if MOST_BYTE < args[1] {
-        return false;
-    }
-    if MOST_PAGE_END < args[4] {
-        return false;
-    }
-    args[ROOM_AT] <= MOST_ROOM as u64
-}
-
-fn fields_of(args: &[u64; TABLE_WORDS]) -> Fields
-    requires { WriteFits args.now }
-{
-    Fields {
-        strategy: args[0] as u8,
-        persist: args[1] as u8,
+// The fields, where each number fits its own.
+fn fields_of(args: &[u64; TABLE_WORDS]) -> Option<Fields> {
+    Some(Fields {
+        strategy: u8::try_from(args[0]).ok()?,
+        persist: u8::try_from(args[1]).ok()?,
         threshold: args[2],
         page: args[3],
-        page_end: args[4] as u16,
+        page_end: u16::try_from(args[4]).ok()?,
         eoa: args[5],
         small: addresses(args, 6),
         large: addresses(args, 12),
-    }
+    })
 }
 
 fn write_into(stdout: Stdout, fields: Fields, room: &mut [u8]) {
-    let number = message::number_of(message::write(fields, room));
-    if number == DONE {
-        say::text(stdout, b"wrote ");
-        say::hex(stdout, room);
-    } else {
-        report::say_told(stdout, number);
-    }
-    say::text(stdout, b"\n");
+    let answer = message::write(fields, room);
+    let _ = match answer {
+        Ok(()) => println!(stdout; "wrote {}", Hex(room)),
+        Err(_) => println!(stdout; "{}", Verdict(message::number_of(answer))),
+    };
 }
 
-pub fn write(stdout: Stdout, line: u64, args: &[u64; TABLE_WORDS]) {
+pub fn write(run: Run, args: &[u64; TABLE_WORDS]) -> Result<Run, Wrong> {
     let mut bytes = [LENT; MOST_ROOM];
-    if fits(args) {
-        let room = args[ROOM_AT] as usize;
-        write_into(stdout, fields_of(args), &mut bytes[..room]);
-        return;
+    let fields = fields_of(args).ok_or(Wrong::TooMany)?;
+    if (MOST_ROOM as u64) < args[ROOM_AT] {
+        return Err(Wrong::TooMany);
     }
-    report::wrong(stdout, line, b"too many");
+    let room = args[ROOM_AT] as usize;
+    write_into(run.stdout, fields, &mut bytes[..room]);
+    Ok(run)
 }

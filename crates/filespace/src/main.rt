@@ -9,15 +9,14 @@ mod carry;
 mod give;
 mod info;
 mod run_summary;
-
-ghost use Rattle.std.specs.Prelude.{◌≡◌, ◌≤◌, length};
-ghost use Rattle.filespace.specs.Lent.{Carried, line_bytes, table_words};
+mod wrong;
 
 use carry::Run;
 use pieces::ENTRY_WORDS;
 use say::report;
-use space::Space;
-use std::io::{Read, Stdin, Stdout};
+use script::words::comment_at;
+use std::io::{Read, Stdin};
+use wrong::Wrong;
 
 const LINE: usize = 100000;
 
@@ -34,136 +33,74 @@ const CHUNK_BYTES: usize = 65536;
 
 const NEWLINE: u8 = b'\n';
 
-// Four zeros over a table of no words, and a summary of zeros.
-fn at_first() -> Run
-    ensures { Carried result }
-{
-    Run {
-        space: Space {
-            page: 0,
-            limit: 0,
-            end: 0,
-            count: 0,
-        },
-        used: 0,
-        summary: totals::no_totals(),
-        line: 1,
-        filled: 0,
-        is_long: false,
-        is_over: false,
-    }
-}
-
-// A line up to its comment.
-fn answer_line(stdout: Stdout, run: Run, line: &[u8], table: &mut [u64; TABLE_WORDS]) -> Run
-    requires { (run.used ≤ table_words) × (length line.now ≤ line_bytes) }
-    ensures { result.used ≤ table_words }
-{
-    let end = script::words::comment_at(line);
-    answer::answer(stdout, run, &line[..end], table)
-}
-
-// The line is whole: it is answered, and the next one starts.
-fn end_line(stdout: Stdout, run: Run, line: &[u8], table: &mut [u64; TABLE_WORDS]) -> Run
-    requires { (length line.now ≡ line_bytes) × Carried run }
-    ensures { Carried result }
-{
-    if run.is_long {
-        report::wrong(stdout, run.line, b"too long");
+// The line is whole: it is answered up to its comment, and the next one starts.
+fn end_line(run: Run, line: &[u8; LINE], table: &mut [u64; TABLE_WORDS]) -> Run {
+    let Some(line) = line.get(..run.filled) else {
+        report::wrong(run.stdout, run.line, Wrong::TooLong);
         return run.next_line();
-    }
-    let filled = run.filled;
-    answer_line(stdout, run, &line[..filled], table).next_line()
+    };
+    let end = comment_at(line);
+    answer::answer(run, &line[..end], table).next_line()
 }
 
-// One byte more of the line. What is longer than a line may be is not kept.
-fn feed(
-    stdout: Stdout,
-    run: Run,
-    byte: u8,
-    line: &mut [u8; LINE],
-    table: &mut [u64; TABLE_WORDS],
-) -> Run
-    requires { Carried run }
-    ensures { Carried result }
-{
+// One byte more of the line. What is longer than a line may be is counted, and not kept.
+fn feed(run: Run, byte: u8, line: &mut [u8; LINE], table: &mut [u64; TABLE_WORDS]) -> Run {
     if byte == NEWLINE {
-        return end_line(stdout, run, line, table);
+        return end_line(run, line, table);
     }
     let filled = run.filled;
-    let mut next = run;
     if filled < LINE {
         line[filled] = byte;
-        next.filled = filled + 1;
-        return next;
     }
-    next.is_long = true;
+    let mut next = run;
+    next.filled = filled.saturating_add(1);
     next
 }
 
 // The bytes that were read, one by one.
-fn feed_all(
-    stdout: Stdout,
-    run: Run,
-    text: &[u8],
-    line: &mut [u8; LINE],
-    table: &mut [u64; TABLE_WORDS],
-) -> Run
-    requires { Carried run }
-    ensures { Carried result }
-{
+fn feed_all(run: Run, text: &[u8], line: &mut [u8; LINE], table: &mut [u64; TABLE_WORDS]) -> Run {
     let mut next = run;
-    let mut i = 0;
-    while i < text.len() {
-        next = feed(stdout, next, text[i], line, table);
-        i += 1;
+    for byte in text {
+        next = feed(next, *byte, line, table);
     }
     next
 }
 
-// The input is over, or cannot be read: a last line without its end is a line too.
-fn end_input(stdout: Stdout, run: Run, line: &[u8], table: &mut [u64; TABLE_WORDS]) -> Run
-    requires { (length line.now ≡ line_bytes) × Carried run }
-    ensures { Carried result }
-{
-    let mut last = end_line(stdout, run, line, table);
-    last.is_over = true;
-    last
-}
-
-// Reads once, and answers the lines that are whole.
+// Reads once, and answers the lines that are whole. Nothing is carried on where the input is over, or cannot be read: a last line without its end is
+// a line too.
 fn turn(
     mut stdin: Stdin,
-    stdout: Stdout,
     run: Run,
     line: &mut [u8; LINE],
     table: &mut [u64; TABLE_WORDS],
-) -> Run
-    requires { Carried run }
-    ensures { Carried result }
-{
+) -> Option<Run> {
     let mut chunk = [0u8; CHUNK_BYTES];
-    let Ok(n) = stdin.read(&mut chunk) else {
-        return end_input(stdout, run, line, table);
-    };
+    let n = stdin.read(&mut chunk).unwrap_or(0);
     if n == 0 {
-        return end_input(stdout, run, line, table);
+        end_line(run, line, table);
+        return None;
     }
-    feed_all(stdout, run, &chunk[..n], line, table)
+    Some(feed_all(run, &chunk[..n], line, table))
 }
 
-// A proved loop has to end, and nothing says that the input does. So the loop counts its turns down, from a number that no run uses up.
-fn turns(stdin: Stdin, stdout: Stdout, line: &mut [u8; LINE], table: &mut [u64; TABLE_WORDS]) {
-    let mut run = at_first();
-    let mut left = u64::MAX;
-    while left > 0 && !run.is_over {
-        run = turn(stdin, stdout, run, line, table);
-        left -= 1;
+// A proved loop has to end, and nothing says that the input does. So the loop counts its turns, up to a number that no run uses up.
+fn turns(stdin: Stdin, start: Run, line: &mut [u8; LINE], table: &mut [u64; TABLE_WORDS]) {
+    let mut run = start;
+    for _ in 0..u64::MAX {
+        let Some(next) = turn(stdin, run, line, table) else {
+            return;
+        };
+        run = next;
     }
 }
 
 fn main(rt: HostRuntime) {
     let mut line = [0u8; LINE];
     let mut table = [0u64; TABLE_WORDS];
-    turns(rt.stdin(), rt.stdout(), &mut line, &mut table);
+    turns(
+        rt.stdin(),
+        Run::at_first(rt.stdout()),
+        &mut line,
+        &mut table,
+    );
 }

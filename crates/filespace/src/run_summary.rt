@@ -1,12 +1,10 @@
 // The summary of a run: set, and worked out afresh.
-ghost use Rattle.std.specs.Prelude.{◌≡◌, ◌≤◌, length};
-ghost use Rattle.filespace.specs.Lent.{table_words};
+ghost use Rattle.std.specs.Prelude.{◌≡◌};
 
+use crate::TABLE_WORDS;
 use crate::carry::Run;
-use crate::give;
-use by_value::fresh_number;
-use say::report;
-use std::io::Stdout;
+use say::report::Verdict;
+use space::answers::number_of;
 use totals::{DECADES, MANAGERS, Summary};
 
 // Of each manager the number of its sections, their bytes and the largest.
@@ -19,8 +17,7 @@ pub const TOTALS: usize = COUNTS_AT + DECADES;
 
 fn summary_of(totals: &[u64; TOTALS], moved: i64) -> Summary {
     let mut decades = [0u64; DECADES];
-    let all = &totals[..];
-    give::copy(&all[COUNTS_AT..], &mut decades);
+    decades.copy_from_slice(&totals[COUNTS_AT..]);
     Summary {
         sections: [totals[0], totals[3], totals[6]],
         bytes: [totals[1], totals[4], totals[7]],
@@ -30,27 +27,19 @@ fn summary_of(totals: &[u64; TOTALS], moved: i64) -> Summary {
     }
 }
 
-pub fn set(stdout: Stdout, run: Run, totals: &[u64; TOTALS], moved: i64) -> Run
+pub fn set(run: Run, totals: &[u64; TOTALS], moved: i64) -> Run
     ensures { result.used ≡ run.used }
 {
-    say::text(stdout, b"set\n");
-    let space = run.space;
-    run.after(space, summary_of(totals, moved))
+    let _ = println!(run.stdout; "set");
+    run.after(run.space, summary_of(totals, moved))
 }
 
 // The state stays as it is, so the answer does not say it.
-pub fn fresh(stdout: Stdout, run: Run, table: &[u64]) -> Run
-    requires { (run.used ≤ table_words) × (length table.now ≡ table_words) }
+pub fn fresh(run: Run, table: &[u64; TABLE_WORDS]) -> Run
     ensures { result.used ≡ run.used }
 {
     let used = run.used;
-    let space = run.space;
-    let given = run.summary;
-    let r = own_summary::fresh(space, &table[..used], given);
-    let done = r.freshened;
-    let answer = done.answer;
-    let summary = r.summary;
-    report::say_told(stdout, fresh_number(answer));
-    say::text(stdout, b"\n");
-    run.after(space, summary)
+    let r = own_summary::fresh(run.space, &table[..used], run.summary);
+    let _ = println!(run.stdout; "{}", Verdict(number_of(r.answered.answer)));
+    run.after(run.space, r.summary)
 }

@@ -11,16 +11,16 @@ use mathlib.Core.Path.{◌≡◌, refl, sym, ap, subst, ◌∙◌}
 use native.Mathlib.Nat.{zero-add, add-zero}
 use native.Mathlib.Omega.{arith}
 use lib.Dec.{leb, eqb}
+use Rattle.std.specs.Prelude.{Ok, Err}
 use borrow.Author.Tests.{lt-ltb, le-ltb, le-leb, lt-leb, eq-eqb, ne_eqb, eqb-true, eqb-false}
-use Rattle.find.specs.Find.{holdsb, told_of, find_in, LiesIn, FoundAt, Finds, FindsRight}
-use Rattle.find.specs.declared.Found.TheVariants.{At, BeyondEnd, InFree, InsideLive, OtherSize}
-use Rattle.find.specs.declared.Found.{Found}
+use Rattle.find.specs.Find.{Found, holdsb, told_of, find_in, LiesIn, FoundAt, Finds, FindsRight}
 use Rattle.pages.proofs.Numbers.{split, and-false}
 use Rattle.pieces.proofs.PieceLaws.{entry_among, entry_number, entry_got}
 use Rattle.pieces.specs.Pieces.{piece, IsFree, is_free, freeb, behind, EntryIs, entry_here, entry_later}
 use Rattle.pieces.specs.declared.Piece.{Piece}
 use Rattle.pieces.specs.declared.Status.TheVariants.{Live, Free}
 use Rattle.pieces.specs.declared.Status.{Status}
+use Rattle.refusals.specs.declared.NotNamed.TheVariants.{BeyondEnd, InFree, InsideLive, OtherSize}
 use Rattle.table.proofs.TilingLaws.{nothing, entry_above, covered, tiles_from}
 use Rattle.table.specs.Sound.{Tiles, tiled, tile, SoundEntries}
 use Rattle.table.specs.Theorems.{Holds}
@@ -42,20 +42,20 @@ lies_behind a x h = and-false (leb x.address a) (le-ltb a (behind x) h)
 -- ---- what is told where it does
 
 module _ (a z i : ℕ) (x : Piece) where
-  pub told_free : freeb x.status ≡ true → told_of a z i x ≡ InFree
+  pub told_free : freeb x.status ≡ true → told_of a z i x ≡ Err InFree
   unfolding told_of
   told_free f = rw f
 
   module _ (live : freeb x.status ≡ false) where
-    pub told_inside : (x.address ≡ a → ⊥) → told_of a z i x ≡ InsideLive
+    pub told_inside : (x.address ≡ a → ⊥) → told_of a z i x ≡ Err InsideLive
     unfolding told_of
     told_inside n = rw (live, ne_eqb x.address a n)
 
-    pub told_other : x.address ≡ a → (x.size ≡ z → ⊥) → told_of a z i x ≡ OtherSize
+    pub told_other : x.address ≡ a → (x.size ≡ z → ⊥) → told_of a z i x ≡ Err OtherSize
     unfolding told_of
     told_other e n = rw (live, eq-eqb x.address a e, ne_eqb x.size z n)
 
-    pub told_at : x.address ≡ a → x.size ≡ z → told_of a z i x ≡ At i x
+    pub told_at : x.address ≡ a → x.size ≡ z → told_of a z i x ≡ Ok (i, x)
     unfolding told_of
     told_at e f = rw (live, eq-eqb x.address a e, eq-eqb x.size z f)
 
@@ -72,7 +72,7 @@ module _ (a z : ℕ) where
       rw (lies_behind a y (omega (arith, entry_above r e, h.from))) (by_entry r e h (i + 1) ∙ ap (λ (m : ℕ). told_of a z m x) s)
   by_entry {E = E} {k = k} (tiled _) x12 h i = elim x12 [ ]
 
-  beyond : {E b : ℕ} {es : List Piece} → Tiles E b es → E ≤ a → (i : ℕ) → find_in a z i es ≡ BeyondEnd
+  beyond : {E b : ℕ} {es : List Piece} → Tiles E b es → E ≤ a → (i : ℕ) → find_in a z i es ≡ Err BeyondEnd
   unfolding find_in
   beyond (tiled e) h i = refl
   beyond (tile {a = b} {z = s} {t = t} r) h i = rw (lies_behind a (piece b s t) (omega (arith, tiles_from r))) (beyond r h (i + 1))
@@ -91,16 +91,16 @@ module _ {P E : ℕ} (a z : ℕ) {es : List Piece} (rules : SoundEntries P E es)
   starts_in {x} m e = record { from = omega arith; to = omega (arith, rules.filled x m) }
 
   only : (r : Found) → Finds E a z es r → r ≡ find_in a z 0 es
-  only (At i x) h =
+  only (Ok (i, x)) h =
       let named = h.named in
       sym (told_by h.entry (starts_in (entry_among h.entry) named.address) ∙ told_at a z i x (rw named.live) named.address named.size)
-  only BeyondEnd h = sym (beyond a z rules.tiling h 0)
-  only InFree h = so_told (λ k x f. told_free a z k x (free_true f)) h
+  only (Err BeyondEnd) h = sym (beyond a z rules.tiling h 0)
+  only (Err InFree) h = so_told (λ k x f. told_free a z k x (free_true f)) h
     where
       free_true : {s : Status} → IsFree s → freeb s ≡ true
       free_true is_free = refl
-  only InsideLive h = so_told (λ k x n. told_inside a z k x (rw n.live) n.elsewhere) h
-  only OtherSize h = so_told (λ k x n. told_other a z k x (rw n.live) n.address n.differs) h
+  only (Err InsideLive) h = so_told (λ k x n. told_inside a z k x (rw n.live) n.elsewhere) h
+  only (Err OtherSize) h = so_told (λ k x n. told_other a z k x (rw n.live) n.address n.differs) h
 
   -- what is told of the entry in which the address lies is so
   right_of : {k : ℕ} {x : Piece} → EntryIs es k x → Holds x a → Finds E a z es (told_of a z k x)
@@ -143,5 +143,5 @@ pub finds_right : FindsRight
 finds_right P E a z es rules = (right a z rules, only a z rules)
 
 -- what a caller learns from an answer
-pub found_at : {P E : ℕ} (a z : ℕ) {es : List Piece} → SoundEntries P E es → {i : ℕ} {x : Piece} → At i x ≡ find_in a z 0 es → FoundAt a z es i x
+pub found_at : {P E : ℕ} (a z : ℕ) {es : List Piece} → SoundEntries P E es → {i : ℕ} {x : Piece} → Ok (i, x) ≡ find_in a z 0 es → FoundAt a z es i x
 found_at {P} {E} a z {es} rules e = subst (λ (v : Found). Finds E a z es v) (sym e) (finds_right P E a z es rules).0

@@ -11,21 +11,28 @@ use mathlib.Core.Path.{◌≡◌, sym, ap, ◌∙◌}
 use native.Mathlib.Nat.{zero-add, add-zero, sub-zero}
 use native.Mathlib.Omega.{arith}
 use Rattle.find.proofs.FindLaws.{lies, lies_before, lies_behind}
-use Rattle.find.specs.Find.{holdsb, told_of, find_in}
-use Rattle.find.specs.Walk.{Rising, FindFits, Started}
-use Rattle.find.specs.declared.Found.TheVariants.{BeyondEnd}
-use Rattle.find.specs.declared.Found.{Found}
+use Rattle.find.specs.Find.{Found, holdsb, told_of, find_in}
+use Rattle.find.specs.Walk.{Rising, Started}
 use Rattle.pages.proofs.Numbers.{split}
-use Rattle.pieces.proofs.WordLaws.{entries_next, entries_none}
-use Rattle.pieces.specs.Words.{entry_at, entries}
+use Rattle.pieces.proofs.WordLaws.{entries_next, entries_none, front_count, front_entry}
+use Rattle.pieces.specs.Words.{words_of, count_in, entry_at, entries}
 use Rattle.pieces.specs.declared.Piece.{Piece}
+use Rattle.refusals.specs.declared.NotNamed.TheVariants.{BeyondEnd}
+use Rattle.std.specs.Prelude.{Err}
 use Rattle.table.proofs.Theorems.{count_fits}
 use Rattle.table.proofs.TilingLaws.{rising}
 use Rattle.table.specs.Sound.{Sound}
 use Rattle.table.specs.Theorems.{Holds}
 
-pub find_fits : {P M E n : ℕ} {w : List ℕ} → Sound P M E n w → FindFits n w
-find_fits {w = w} s = record { within = count_fits s.ranges; rising = rising w s.rules.tiling }
+-- v is what a caller took of the table: all entries
+pub find_fits : {P M E n : ℕ} {w v : List ℕ} → Sound P M E n w → v ≡ words_of w 0 n → Rising v (count_in v)
+find_fits {n = n} {w = w} s is =
+    let there = count_fits s.ranges in
+    let many = front_count w n there in
+    rw is
+    (λ i k low high.
+    let k_in : k < n = omega (arith, many) in
+    rw (front_entry w n there i (omega arith), front_entry w n there k k_in) (rising w s.rules.tiling i k low k_in))
 
 module _ (a z : ℕ) (w : List ℕ) (n : ℕ) where
   -- what is told from entry i on
@@ -44,7 +51,7 @@ module _ (a z : ℕ) (w : List ℕ) (n : ℕ) where
       passed i (omega arith) (h i (omega arith) (omega arith))
       ∙ (all_passed (i + 1) d (omega arith) (λ k l m. h k (omega arith) (omega arith)) ∙ ap from e)
 
-  none_left : (i : ℕ) → i ≤ n → ((k : ℕ) → i ≤ k → k < n → holdsb a (entry_at w k) ≡ false) → from i ≡ BeyondEnd
+  none_left : (i : ℕ) → i ≤ n → ((k : ℕ) → i ≤ k → k < n → holdsb a (entry_at w k) ≡ false) → from i ≡ Err BeyondEnd
   unfolding find_in
   none_left i le h =
       let e : i + (n - i) ≡ n = omega arith in
@@ -60,7 +67,7 @@ module _ (a z : ℕ) (w : List ℕ) (n : ℕ) where
         split k i (λ m. let e : i ≡ k = omega arith in lies_before a (entry_at w k) (rw e at (next (omega arith))))
         (λ m. lies_before a (entry_at w k) (omega (arith, next (omega arith), up i k m h)))
 
-    pub none_started : (r : ℕ) → r ≤ 0 → Started a n w r → find_in a z 0 (entries w 0 n) ≡ BeyondEnd
+    pub none_started : (r : ℕ) → r ≤ 0 → Started a n w r → find_in a z 0 (entries w 0 n) ≡ Err BeyondEnd
     none_started r none s =
         let e : r ≡ 0 = omega arith in
         let first : Started a n w 0 = rw e at s in
@@ -85,7 +92,7 @@ module _ (a z : ℕ) (w : List ℕ) (n : ℕ) where
           let it : Holds x a = record { from = last_start; to = omega (arith, last_start) } in
           to_last ∙ rw (entries_next w n (r - 1) (omega (arith, s.within)), ← is, lies a x it)
 
-      pub behind_last : x.size ≤ a - x.address → find_in a z 0 (entries w 0 n) ≡ BeyondEnd
+      pub behind_last : x.size ≤ a - x.address → find_in a z 0 (entries w 0 n) ≡ Err BeyondEnd
       behind_last le =
           let e : r - 1 + 1 ≡ r = omega arith in
           let not_it = ap (holdsb a) (sym is) ∙ lies_behind a x (omega (arith, last_start)) in

@@ -1,6 +1,7 @@
 -- What an address and a size name among the entries of a table: a live piece, or else what is wrong with them. The one entry in which the
 -- address lies decides.
 --
+--   Found                 the named piece with the number of its entry, or why there is none
 --   holdsb a x            the test whether the address a lies in x
 --   told_of a z i x       what is told of the address a and the size z, if a lies in x, entry i
 --   find_in a z i es      what is told of them among es, whose first entry has the number i: by the first entry in which a lies; beyond the end,
@@ -21,7 +22,7 @@
 --   FindsRight            of the entries of a sound table find_in tells what is so, and nothing else is: exactly one of the five
 --
 -- Assumes nothing.
-use Rattle.std.specs.Prelude.{◌≡◌, Bool, cond, ◌&&◌, ℕ, ◌+◌, ◌≤◌, leb, ltb, eqb}
+use Rattle.std.specs.Prelude.{◌≡◌, Bool, cond, ◌&&◌, ℕ, ◌+◌, ◌≤◌, leb, ltb, eqb, Result, Ok, Err}
 use mathlib.Core.List.{List, [], ◌∷◌, Memᴰ}
 use Rattle.pieces.specs.declared.Class.{Class}
 use Rattle.pieces.specs.declared.Status.TheVariants.{Live}
@@ -29,19 +30,23 @@ use Rattle.pieces.specs.declared.Piece.{Piece}
 use Rattle.pieces.specs.Pieces.{behind, IsFree, freeb, EntryIs}
 use Rattle.table.specs.Sound.{SoundEntries}
 use Rattle.table.specs.Theorems.{Holds}
-use Rattle.find.specs.declared.Found.{Found}
-use Rattle.find.specs.declared.Found.TheVariants as found
+use Rattle.refusals.specs.declared.NotNamed.{NotNamed}
+use Rattle.refusals.specs.declared.NotNamed.TheVariants as unnamed
+
+-- what is found: an entry's number and the entry, which is the named piece; or why there is none
+abbrev pub Found : Type 0
+Found = Result (ℕ × Piece) NotNamed
 
 unfoldable pub holdsb : ℕ → Piece → Bool
 holdsb a x = leb x.address a && ltb a (behind x)
 
 unfoldable pub told_of : ℕ → ℕ → ℕ → Piece → Found
 told_of a z i x =
-    cond (freeb x.status) found.InFree
-    (cond (eqb x.address a) (cond (eqb x.size z) (found.At i x) found.OtherSize) found.InsideLive)
+    cond (freeb x.status) (Err unnamed.InFree)
+    (cond (eqb x.address a) (cond (eqb x.size z) (Ok (i, x)) (Err unnamed.OtherSize)) (Err unnamed.InsideLive))
 
 unfoldable pub find_in : ℕ → ℕ → ℕ → List Piece → Found
-find_in a z i [] = found.BeyondEnd
+find_in a z i [] = Err unnamed.BeyondEnd
 find_in a z i (x ∷ es) = cond (holdsb a x) (told_of a z i x) (find_in a z (i + 1) es)
 
 -- ---- the second description
@@ -83,11 +88,11 @@ abbrev pub OtherSize : ℕ → ℕ → List Piece → Type 0
 OtherSize a z es = LiesIn a es (NotItsSize a z)
 
 abbrev pub Finds : ℕ → ℕ → ℕ → List Piece → Found → Type 0
-Finds E a z es (found.At i x) = FoundAt a z es i x
-Finds E a z es found.BeyondEnd = E ≤ a
-Finds E a z es found.InFree = InFree a es
-Finds E a z es found.InsideLive = InsideLive a es
-Finds E a z es found.OtherSize = OtherSize a z es
+Finds E a z es (Ok (i, x)) = FoundAt a z es i x
+Finds E a z es (Err unnamed.BeyondEnd) = E ≤ a
+Finds E a z es (Err unnamed.InFree) = InFree a es
+Finds E a z es (Err unnamed.InsideLive) = InsideLive a es
+Finds E a z es (Err unnamed.OtherSize) = OtherSize a z es
 
 -- ---- what is proved
 

@@ -11,8 +11,8 @@ use lib.ListN.{take, drop}
 use Rattle.choose.proofs.BestLaws.{best_place, fits_small, fits_large}
 use Rattle.choose.specs.Choose.{fits_in, best, Best, FitsLarge}
 use Rattle.choose.specs.Place.{in_large, in_small, as_page, large_place_for, small_place_for, place_for, place_address}
-use Rattle.choose.specs.declared.Chosen.TheVariants.{At, Nothing}
-use Rattle.choose.specs.declared.Chosen.{Chosen}
+use Rattle.std.specs.Prelude.{Some, None}
+use Rattle.choose.specs.Choose.{Chosen}
 use Rattle.choose.specs.declared.place.Place.{Place}
 use Rattle.literal.proofs.AllocateLaws.{in_place_split, Replaces, in_place_chain, Grant, grant_large, grant_page, into_large_lem, at_end_lem, into_small_lem}
 use Rattle.literal.proofs.ChangedChains.{lives_only_free, file_of_chain}
@@ -105,8 +105,8 @@ module _ (P : ℕ) (pos : 0 < P) where
     rule_placed : (r : Chosen) → Best (λ x. fits_in P Large q x ≡ true) es r
         → FileOf P (large_rule P E q new es (in_large P r)) (insert (p (place_address E (in_large P r))) (lives es))
     unfolding large_rule
-    rule_placed Nothing h = rule_at_end
-    rule_placed (At i x) h =
+    rule_placed None h = rule_at_end
+    rule_placed (Some (i, x)) h =
         let f : FitsLarge P q x = fits_large P pos q x h.fitting in
         let b : ℕ = up P x.address in
         replaced (into_large b q (new b)) (p b) pos c (entry_as f.free h.entry)
@@ -115,14 +115,14 @@ module _ (P : ℕ) (pos : 0 < P) where
 
   -- ---- a large and a small request
 
-  chosen : {E : ℕ} {es : List Piece} → Chain P E es → (k : Class) (s : ℕ) → Best (λ x. fits_in P k s x ≡ true) es (best (fits_in P k s) 0 Nothing es)
+  chosen : {E : ℕ} {es : List Piece} → Chain P E es → (k : Class) (s : ℕ) → Best (λ x. fits_in P k s x ≡ true) es (best (fits_in P k s) 0 None es)
   chosen {E} {es} c k s = let h = rules_of P pos c in (best_place (fits_in P k s) E 0 es h.filled h.tiling).is
 
   large_chain : {E s : ℕ} {es : List Piece} → Chain P E es → P ≤ s → AllocatingIn P E Large s es
   unfolding after_allocating place_for large_place_for
   large_chain {E} {s} {es} c h =
       rule_placed c s (large_piece s) (λ b. piece b s (Live Large)) (Live Large) (λ b bo. grant_large P pos bo h) (lives_large_piece s)
-      (best (fits_in P Large s) 0 Nothing es) (chosen c Large s)
+      (best (fits_in P Large s) 0 None es) (chosen c Large s)
 
   module _ {E s : ℕ} {k : Class} {es : List Piece} (c : Chain P E es) (t : Small k) (some : 0 < s) (less : s < P) where
     abbrev SmallDone : Place → Type 0
@@ -135,13 +135,13 @@ module _ (P : ℕ) (pos : 0 < P) where
 
     page_placed : (r : Chosen) → Best (λ x. fits_in P Large P x ≡ true) es r → SmallDone (as_page (in_large P r))
     unfolding after_allocating_small large_rule
-    page_placed Nothing h = page_rule Nothing h
-    page_placed (At i x) h = page_rule (At i x) h
+    page_placed None h = page_rule None h
+    page_placed (Some (i, x)) h = page_rule (Some (i, x)) h
 
     small_placed : (q : Place) → SmallDone q → (r : Chosen) → Best (λ x. fits_in P k s x ≡ true) es r → SmallDone (in_small q r)
     unfolding after_allocating_small
-    small_placed q d Nothing h = d
-    small_placed q d (At i x) h =
+    small_placed q d None h = d
+    small_placed q d (Some (i, x)) h =
         let f = fits_small P k t s x h.fitting in
         replaced (into_small k s) (piece x.address s (Live k)) pos c (entry_as f.free h.entry)
         (into_small_lem P pos t some f.room) (lives_into_small k s (piece x.address x.size (Free k)))
@@ -149,8 +149,8 @@ module _ (P : ℕ) (pos : 0 < P) where
     small_chain : SmallDone (small_place_for P k s es)
     unfolding small_place_for large_place_for
     small_chain =
-        small_placed (as_page (large_place_for P P es)) (page_placed (best (fits_in P Large P) 0 Nothing es) (chosen c Large P))
-        (best (fits_in P k s) 0 Nothing es) (chosen c k s)
+        small_placed (as_page (large_place_for P P es)) (page_placed (best (fits_in P Large P) 0 None es) (chosen c Large P))
+        (best (fits_in P k s) 0 None es) (chosen c k s)
 
   pub allocated_chain : {E : ℕ} {k : Class} {s : ℕ} {es : List Piece} → Chain P E es → Request P k s → AllocatingIn P E k s es
   unfolding after_allocating place_for

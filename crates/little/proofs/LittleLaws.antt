@@ -7,11 +7,12 @@
 use Prim.Native.Nat.{ℕ, zero, suc, ◌+◌, ◌-◌, ◌*◌, ◌/◌, ◌%◌, ◌^◌, ◌≤◌, ◌<◌, zero-le}
 use mathlib.Core.List.{List, [], ◌∷◌, ◌++◌, append-nil, append_assoc}
 use mathlib.Core.Path.{◌≡◌, refl, sym, ap, ◌∙◌}
-use native.Mathlib.Nat.{sub-zero, zero-sub, suc-sub-suc, lt_of_lt_of_le, pow-succ', pow-le-pow_right, mod-lt, div-add-mod}
+use Rattle.std.specs.Int.{w64, byte_at, bytes_low_first, to_le_bytes, from_le_bytes}
+use native.Mathlib.Nat.{div-div-eq-div-mul, sub-zero, zero-sub, suc-sub-suc, lt_of_lt_of_le, pow-succ', pow-le-pow_right, mod-lt, div-add-mod}
 use native.Mathlib.Numerals.{add-one}
 use native.Mathlib.Omega.{arith}
 use lib.Dec.{lit<}
-use lib.ListN.{length, take, drop, get_or, set, replicate, length-append, length-take, length-drop, length-set, take-append-drop, drop_of_length-le}
+use lib.ListN.{length, take, drop, get_or, set, replicate, length-append, length-take, length-drop, take-append-drop, drop_of_length-le}
 use lib.Seq.{drop-cons, length-take-le, take_all, take-suc, take-suc-set, append_snoc, get_or-drop, take_at, drop_at, drop-append-add}
 use lib.Seq.{drop-drop, set_split, take-take, take-add, take-nil}
 use borrow.Rule.Slice.PartMut.{put_mid, Post-is}
@@ -47,19 +48,12 @@ little_cons : (bs : List ℕ) (i : ℕ) → i < length bs → little (drop i bs)
 unfolding little
 little_cons bs i h = ap little (drop-cons bs i 0 h)
 
--- a byte more in front, as the reader goes down
-pub little_down : (bs : List ℕ) (i : ℕ) → i < length bs
-    → get_or bs (length bs - 1 - i) 0 + byte_values * little (drop (length bs - i) bs) ≡ little (drop (length bs - (i + 1)) bs)
-little_down bs i h =
-    let at : length bs - (i + 1) ≡ length bs - 1 - i = omega arith in
-    let next : length bs - i ≡ suc (length bs - 1 - i) = omega arith in
-    rw (at, next) (sym (little_cons bs (length bs - 1 - i) (omega arith)))
+-- a byte more before those passed, as the reader goes down
+pub passed_more : (bs front rest t : List ℕ) (x : ℕ) → bs ≡ front ++ t → front ≡ rest ++ x ∷ [] → bs ≡ rest ++ x ∷ t
+passed_more bs front rest t x e f = e ∙ rw f (append_assoc rest (x ∷ []) t)
 
--- the eight bytes of a word, each by its place
-pub little_word : (b : List ℕ) → length b ≡ word_bytes
-    → get_or b 0 0 + 256 * get_or b 1 0 + 65536 * get_or b 2 0 + 16777216 * get_or b 3 0 + 4294967296 * get_or b 4 0 + 1099511627776 * get_or b 5 0
-    + 281474976710656 * get_or b 6 0 + 72057594037927936 * get_or b 7 0
-    ≡ little b
+-- the eight bytes of a word, as the standard library reads them
+pub little_word : (b : List ℕ) → length b ≡ word_bytes → from_le_bytes w64 b ≡ little b
 unfolding little
 little_word b l =
     let at : (i : ℕ) → i < word_bytes → little (drop i b) ≡ get_or b i 0 + byte_values * little (drop (suc i) b) = λ i h. little_cons b i (omega arith) in
@@ -82,6 +76,12 @@ little_fits bs h l =
     let p : byte_values ^ length bs ≤ byte_values ^ 8 = pow-le-pow_right (lit< tt) l in
     omega (arith, little_lt bs h, p)
 
+pub passed_fits : (bs front t : List ℕ) → Bytes bs → length bs ≤ 8 → bs ≡ front ++ t → little t < 2 ^ 64
+passed_fits bs front t h l e =
+    let behind : drop (length front) bs ≡ t = rw e (drop_at front t (length front) refl) in
+    let b : Bytes t = rw behind at (bytes_drop (length front) bs h) in
+    little_fits t b (omega (arith, ap length e, length-append front t))
+
 pub length_bytes_of : (w v : ℕ) → length (bytes_of w v) ≡ w
 unfolding bytes_of
 length_bytes_of zero v = refl
@@ -103,19 +103,18 @@ bytes_of_end out i n rest h l =
     let m : length out ≤ i = omega arith in
     rw (e, take_all i out m, append-nil)
 
--- k bytes laid one after the other, the first at the place i
-unfoldable pub stored : ℕ → ℕ → List ℕ → ℕ → List ℕ
-stored zero i out rest = out
-stored (suc k) i out rest = stored k (i + 1) (set out i (rest % byte_values)) (rest / byte_values)
+-- the bytes of a word, as the standard library writes them
+low_first : (i k v : ℕ) → bytes_low_first i k v ≡ bytes_of k (v / byte_values ^ i)
+unfolding bytes_of
+low_first i zero v = refl
+low_first i (suc k) v =
+    let b : byte_at i v ≡ v / byte_values ^ i % byte_values = elim i as (λ n. byte_at n v ≡ v / byte_values ^ n % byte_values) [ zero ↦ omega arith | suc n ↦ refl ] in
+    let p : byte_values ^ i * byte_values ≡ byte_values ^ suc i = omega (arith, pow-succ' byte_values i) in
+    let d : v / byte_values ^ i / byte_values ≡ v / byte_values ^ suc i = div-div-eq-div-mul v (byte_values ^ i) byte_values ∙ ap (λ n. v / n) p in
+    rw (b, d, low_first (suc i) k v)
 
-pub stored_is : (k i : ℕ) (out : List ℕ) (rest : ℕ) → length out ≡ i + k → stored k i out rest ≡ take i out ++ bytes_of k rest
-unfolding stored bytes_of
-stored_is zero i out rest l = let m : length out ≤ i = omega arith in sym (append-nil (take i out) ∙ take_all i out m)
-stored_is (suc k) i out rest l =
-    let m : i < length out = omega arith in
-    let n : length (set out i (rest % byte_values)) ≡ i + 1 + k = simp length-set (omega arith) in
-    stored_is k (i + 1) (set out i (rest % byte_values)) (rest / byte_values) n
-    ∙ rw (add-one, take-suc-set out i (rest % byte_values)) (append_snoc (take i out) (rest % byte_values) (bytes_of k (rest / byte_values)))
+pub word_bytes_of : (v : ℕ) → to_le_bytes w64 v ≡ bytes_of word_bytes v
+word_bytes_of v = let e : v / byte_values ^ 0 ≡ v = omega arith in low_first 0 word_bytes v ∙ ap (bytes_of word_bytes) e
 
 pub little_bytes_of : (w v : ℕ) → v < byte_values ^ w → little (bytes_of w v) ≡ v
 unfolding little bytes_of

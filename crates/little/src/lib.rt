@@ -15,13 +15,9 @@ pub fn get(bytes: &[u8]) -> u64
     requires { length bytes.now ≤ 8 }
     ensures { result ≡ little bytes.now }
 {
-    let n = bytes.len();
     let mut value: u64 = 0;
-    let mut i = 0;
-    while i < n {
-        let at = n - 1 - i;
-        value = bytes[at] as u64 + BYTE_VALUES * value;
-        i += 1;
+    for byte in bytes.iter().rev() {
+        value = u64::from(*byte) + BYTE_VALUES * value;
     }
     value
 }
@@ -31,11 +27,9 @@ pub fn put(value: u64, out: &mut [u8])
     ensures { out.new ≡ bytes_of (length out.old) value }
 {
     let mut rest = value;
-    let mut i = 0;
-    while i < out.len() {
-        out[i] = (rest % BYTE_VALUES) as u8;
-        rest = rest / BYTE_VALUES;
-        i += 1;
+    for byte in out.iter_mut() {
+        *byte = (rest % BYTE_VALUES) as u8;
+        rest /= BYTE_VALUES;
     }
 }
 
@@ -53,11 +47,4 @@ pub fn put_part(value: u64, out: &mut [u8], from: usize, to: usize)
     ensures { out.new ≡ laid from to (bytes_of (to - from) value) out.old }
 {
     put(value, &mut out[from..to]);
-}
-
-// A byte as a number.
-pub fn wide(byte: u8) -> u64
-    ensures { (result ≡ byte) × (result < byte_values) }
-{
-    byte as u64
 }

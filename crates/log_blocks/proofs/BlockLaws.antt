@@ -1,19 +1,18 @@
 -- The laws of a block.
 --
---   zero_next, zero_not, zero_end    whether bytes are 0: one more, one that is not, none left
+--   zerob_all        whether bytes are 0, each of them
 --   fullb b .. behindb b             the rules of a block, by themselves
 --   short_block .. behind_not        a block is refused by the one rule that it breaks
 --   Kept i b                         the block b keeps all rules but the check; block-checked, it is good by its check
 --   good_kept                        a good block keeps all rules
 --   block_full, block_number, block_some, block_most   what a good block has: its bytes, a number of four bytes, 1 to 12 records
-use Prim.Native.Nat.{ℕ, ◌+◌, ◌^◌, ◌≤◌, ◌<◌}
+use Prim.Native.Nat.{ℕ, ◌^◌, ◌≤◌, ◌<◌}
 use mathlib.Core.Bool.{Bool, true, false, ◌&&◌}
-use mathlib.Core.List.{List}
-use mathlib.Core.Path.{◌≡◌, refl, sym}
-use native.Mathlib.Numerals.{add-one}
+use mathlib.Core.List.{List, [], ◌∷◌}
+use Rattle.std.specs.List.{list_all}
+use mathlib.Core.Path.{◌≡◌, refl, sym, ap}
 use lib.Dec.{eqb, leb}
-use lib.ListN.{length, drop, get_or, drop_of_length-le}
-use lib.Seq.{drop-cons}
+use lib.ListN.{length}
 use Rattle.little.specs.Little.{byte_values, part, value_at, Bytes}
 use Rattle.little.proofs.LittleLaws.{value_lt}
 use Rattle.log_blocks.specs.Blocks.{count_at, head_zeros_at, records_at, most_records, number_in, count_in, records_in, behind_at, zerob, blockb}
@@ -24,17 +23,10 @@ use borrow.Author.Tests.{eqb-true, leb-true, eq-eqb, ne_eqb, le-leb, lt-leb}
 
 -- ---- bytes that are 0
 
-pub zero_next : (bs : List ℕ) (i : ℕ) → i < length bs → get_or bs i 0 ≡ 0 → zerob (drop (i + 1) bs) ≡ zerob (drop i bs)
+pub zerob_all : (bs : List ℕ) → list_all (λ v. eqb v 0) bs ≡ zerob bs
 unfolding zerob
-zero_next bs i h e = rw (drop-cons bs i 0 h, e, add-one) refl
-
-pub zero_not : (bs : List ℕ) (i : ℕ) → i < length bs → (get_or bs i 0 ≡ 0 → ⊥) → false ≡ zerob (drop i bs)
-unfolding zerob
-zero_not bs i h e = rw (drop-cons bs i 0 h, ne_eqb (get_or bs i 0) 0 e) refl
-
-pub zero_end : (bs : List ℕ) (i : ℕ) → length bs ≤ i → true ≡ zerob (drop i bs)
-unfolding zerob
-zero_end bs i h = rw (drop_of_length-le bs h) refl
+zerob_all [] = refl
+zerob_all (v ∷ bs) = ap (λ t. eqb v 0 && t) (zerob_all bs)
 
 -- ---- a rule that is broken
 

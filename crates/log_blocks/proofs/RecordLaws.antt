@@ -1,6 +1,5 @@
 -- The laws of records.
 --
---   zeros_not .. other_fields           whether the fields that are not used are 0: by the first one that is not, and where the last one decides
 --   length_records     bytes that are read as n records are n records
 --   records_left n i b  of the n records in the block b those from the record i on
 --   records_start, records_next, records_end   all of them, one and the rest, none
@@ -11,57 +10,12 @@ use mathlib.Core.List.{List, [], ◌∷◌}
 use mathlib.Core.Path.{◌≡◌, refl, ap}
 use native.Mathlib.Nat.{sub-zero}
 use native.Mathlib.Omega.{arith}
-use lib.Dec.{eqb}
 use lib.ListN.{length, take, drop}
 use lib.Seq.{drop-drop}
 use Rattle.log_blocks.specs.Blocks.{records_at}
-use Rattle.log_blocks.specs.Records.{record_bytes, allocates, releases, record_in, records_from}
-use Rattle.log_blocks.specs.Records.{zerosb, recordb, recordsb}
+use Rattle.log_blocks.specs.Records.{record_bytes, record_in, records_from}
+use Rattle.log_blocks.specs.Records.{recordb, recordsb}
 use Rattle.log_blocks.specs.declared.records.Record.{Record}
-use borrow.Author.Tests.{eq-eqb, ne_eqb}
-
--- ---- the fields that are not used
-
-abbrev Not0 : ℕ → Type 0
-Not0 v = v ≡ 0 → ⊥
-
-pub zeros_not : (r : Record) → Not0 r.zeros → false ≡ zerosb r
-unfolding zerosb
-zeros_not r h = rw (ne_eqb r.zeros 0 h) refl
-
-pub allocate_address_not : (r : Record) → r.zeros ≡ 0 → r.operation ≡ allocates → Not0 r.address → false ≡ zerosb r
-unfolding zerosb
-allocate_address_not r z o h = rw (eq-eqb r.zeros 0 z, eq-eqb r.operation allocates o, ne_eqb r.address 0 h) refl
-
-pub allocate_change : (r : Record) → r.zeros ≡ 0 → r.operation ≡ allocates → r.address ≡ 0 → eqb r.change 0 ≡ zerosb r
-unfolding zerosb
-allocate_change r z o a = rw (eq-eqb r.zeros 0 z, eq-eqb r.operation allocates o, eq-eqb r.address 0 a) refl
-
--- a record of another operation, with zeros behind its refusal
-pub record Other (r : Record) : Type 0 where
-  pub zeros : r.zeros ≡ 0
-  pub operation : r.operation ≡ allocates → ⊥
-
-pub code_not : (r : Record) → Other r → Not0 r.code → false ≡ zerosb r
-unfolding zerosb
-code_not r t h = rw (eq-eqb r.zeros 0 t.zeros, ne_eqb r.operation allocates t.operation, ne_eqb r.code 0 h) refl
-
-pub answer_not : (r : Record) → Other r → r.code ≡ 0 → Not0 r.answer → false ≡ zerosb r
-unfolding zerosb
-answer_not r t c h =
-    rw (eq-eqb r.zeros 0 t.zeros, ne_eqb r.operation allocates t.operation, eq-eqb r.code 0 c, ne_eqb r.answer 0 h) refl
-
-pub release_change : (r : Record) → Other r → r.code ≡ 0 → r.answer ≡ 0 → r.operation ≡ releases → eqb r.change 0 ≡ zerosb r
-unfolding zerosb
-release_change r t c a o =
-    rw (eq-eqb r.zeros 0 t.zeros, ne_eqb r.operation allocates t.operation, eq-eqb r.code 0 c, eq-eqb r.answer 0 a)
-    (rw (eq-eqb r.operation releases o) refl)
-
-pub other_fields : (r : Record) → Other r → r.code ≡ 0 → r.answer ≡ 0 → (r.operation ≡ releases → ⊥) → true ≡ zerosb r
-unfolding zerosb
-other_fields r t c a o =
-    rw (eq-eqb r.zeros 0 t.zeros, ne_eqb r.operation allocates t.operation, eq-eqb r.code 0 c, eq-eqb r.answer 0 a)
-    (rw (ne_eqb r.operation releases o) refl)
 
 -- ---- the records of a block
 

@@ -3,12 +3,13 @@
 
 pub mod records;
 
-ghost use Rattle.std.specs.Prelude.{◌≡◌, ◌+◌, ◌*◌, ◌≤◌, ◌<◌, length, take, drop};
-ghost use Rattle.log_blocks.specs.Blocks.{count_in, records_at, most_records, zerob, blockb};
+ghost use Rattle.std.specs.Prelude.{◌≡◌, ◌+◌, ◌*◌, ◌≤◌, ◌<◌, eqb, length, take, drop};
+ghost use Rattle.std.specs.List.{list_all};
+ghost use Rattle.log_blocks.specs.Blocks.{count_in, records_at, most_records, blockb};
 ghost use Rattle.log_blocks.specs.Records.{record_bytes, record_in, records_from, recordsb};
 ghost use Rattle.log_check.specs.Check.{block_bytes};
 
-use little::{get_part, wide};
+use little::get_part;
 use log_check::{BLOCK_BYTES, CHECK_AT};
 use records::{RECORD_BYTES, Record};
 
@@ -27,7 +28,7 @@ pub fn count(block: &[u8]) -> usize
     requires { length block.now ≡ block_bytes }
     ensures { result ≡ count_in block.now }
 {
-    wide(block[COUNT_AT]) as usize
+    usize::from(block[COUNT_AT])
 }
 
 // Its record at a place, from 0.
@@ -40,16 +41,9 @@ pub fn record_at(block: &[u8], place: usize) -> Record
 }
 
 fn is_zero(bytes: &[u8]) -> bool
-    ensures { result ≡ zerob bytes.now }
+    ensures { result ≡ list_all (λ v. eqb v 0) bytes.now }
 {
-    let mut i: usize = 0;
-    while i < bytes.len() {
-        if bytes[i] != 0 {
-            return false;
-        }
-        i = i + 1;
-    }
-    true
+    bytes.iter().all(|byte| *byte == 0)
 }
 
 // Whether its first records keep the rules, with that of block 0 as the first of the log.
@@ -57,14 +51,10 @@ fn are_records(first: bool, block: &[u8], count: usize) -> bool
     requires { (length block.now ≡ block_bytes) × (count ≤ most_records) }
     ensures { result ≡ recordsb first (records_from count (drop records_at block.now)) }
 {
-    let mut is_first = first;
-    let mut i: usize = 0;
-    while i < count {
-        if !records::is_record(is_first, record_at(block, i)) {
+    for i in 0..count {
+        if !records::is_record(first && i == 0, record_at(block, i)) {
             return false;
         }
-        is_first = false;
-        i = i + 1;
     }
     true
 }

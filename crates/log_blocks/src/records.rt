@@ -2,7 +2,7 @@
 ghost use Rattle.std.specs.Prelude.{◌≡◌, length};
 ghost use Rattle.log_blocks.specs.Records.{record_bytes, record_in, operationb, zerosb, recordb};
 
-use little::{WORD_BYTES, get_part, wide};
+use little::{WORD_BYTES, get_part};
 use words::get_word;
 
 // Where the fields of a record start; the operation starts it.
@@ -22,7 +22,8 @@ const ANSWER_AT: usize = CHANGE_AT + WORD_BYTES;
 
 pub const RECORD_BYTES: usize = ANSWER_AT + WORD_BYTES;
 
-// The operations.
+// The operations, as numbers and not as an enum: a record is what its bytes say, so its operation may be none of these, and an enum would be made of
+// the number at each place that now compares it.
 pub const OPEN: u64 = 0;
 
 pub const ALLOCATE: u64 = 1;
@@ -51,9 +52,9 @@ pub fn record_in(bytes: &[u8]) -> Record
     ensures { result ≡ record_in bytes.now }
 {
     Record {
-        operation: wide(bytes[0]),
-        code: wide(bytes[CODE_AT]),
-        refusal: wide(bytes[REFUSAL_AT]),
+        operation: u64::from(bytes[0]),
+        code: u64::from(bytes[CODE_AT]),
+        refusal: u64::from(bytes[REFUSAL_AT]),
         zeros: get_part(bytes, ZEROS_AT, ADDRESS_AT),
         address: get_word(&bytes[ADDRESS_AT..SIZE_AT]),
         size: get_word(&bytes[SIZE_AT..CHANGE_AT]),
@@ -68,45 +69,28 @@ fn is_operation(first: bool, operation: u64) -> bool
     ensures { result ≡ operationb first operation }
 {
     if first {
-        return operation == OPEN;
+        operation == OPEN
+    } else {
+        (ALLOCATE..=SHORTEN).contains(&operation)
     }
-    if operation < ALLOCATE {
-        return false;
-    }
-    operation <= SHORTEN
 }
 
 // Whether the fields that its operation does not use are 0.
+#[tactic(auto, unfolding(crate::specs::Records::zerosb))]
 fn has_zeros(said: Record) -> bool
     ensures { result ≡ zerosb said }
 {
-    if said.zeros != 0 {
-        return false;
-    }
-    if said.operation == ALLOCATE {
-        if said.address != 0 {
-            return false;
+    said.zeros == 0
+        && match said.operation {
+            ALLOCATE => said.address == 0 && said.change == 0,
+            RELEASE => said.code == 0 && said.answer == 0 && said.change == 0,
+            _ => said.code == 0 && said.answer == 0,
         }
-        return said.change == 0;
-    }
-    if said.code != 0 {
-        return false;
-    }
-    if said.answer != 0 {
-        return false;
-    }
-    if said.operation == RELEASE {
-        return said.change == 0;
-    }
-    true
 }
 
 // Whether the record keeps the rules, as the first of the log or as a later one.
 pub fn is_record(first: bool, said: Record) -> bool
     ensures { result ≡ recordb first said }
 {
-    if !is_operation(first, said.operation) {
-        return false;
-    }
-    has_zeros(said)
+    is_operation(first, said.operation) && has_zeros(said)
 }

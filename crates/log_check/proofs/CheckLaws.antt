@@ -4,10 +4,10 @@
 --   shorts_from i block    the words of 16 bits from the word i on
 --   short_is               such a word by its two bytes
 --   sums_up, sums_end      the sums over a block: one word more, at last
---   check_fails, check_second       the first half of the check differs; it does not, and the second half decides
---   log_sums                        what specs/Check.antt says of them
+--   checked                both halves of the check are its sums
+--   log_sums               what specs/Check.antt says of them
 use Prim.Native.Nat.{ℕ, zero, suc, ◌+◌, ◌-◌, ◌*◌, ◌%◌, ◌≤◌, ◌<◌}
-use mathlib.Core.Bool.{true, false}
+use mathlib.Core.Bool.{true, ◌&&◌}
 use mathlib.Core.List.{List, [], ◌∷◌}
 use mathlib.Core.Path.{◌≡◌, refl, sym, ap, ◌∙◌}
 use native.Mathlib.Nat.{mod-lt}
@@ -21,7 +21,7 @@ use Rattle.log_check.specs.Check.{short_bytes, check_at, second_at, block_bytes,
 use Rattle.log_check.specs.Check.{total, successive, LogSums}
 use Rattle.log_check.specs.declared.Sums.{Sums}
 use Rattle.pages.proofs.Numbers.{and_left, and_right}
-use borrow.Author.Tests.{eqb-true, eq-eqb, ne_eqb}
+use borrow.Author.Tests.{eqb-true}
 
 abbrev pub sum_at : ℕ → ℕ → Sums
 sum_at a b = record { a = a % sum_values; b = b % sum_values }
@@ -67,14 +67,10 @@ sums_end block i a b h =
 
 -- ---- the check
 
-pub check_fails : (b : List ℕ) {s : Sums} {v : ℕ} → s ≡ sums_of (shorts_in b) → v ≡ value_at check_at second_at b → (v ≡ s.a → ⊥) → false ≡ checkb b
+pub checked : (b : List ℕ) {s : Sums} {v w : ℕ} → s ≡ sums_of (shorts_in b) → v ≡ value_at check_at second_at b → w ≡ value_at second_at block_bytes b
+    → (eqb v s.a && eqb w s.b) ≡ checkb b
 unfolding checkb
-check_fails b {s} {v} e f h = rw (← e, ← f, ne_eqb v s.a h) refl
-
-pub check_second : (b : List ℕ) {s : Sums} {v w : ℕ} → s ≡ sums_of (shorts_in b) → v ≡ value_at check_at second_at b → v ≡ s.a
-    → w ≡ value_at second_at block_bytes b → eqb w s.b ≡ checkb b
-unfolding checkb
-check_second b {s} {v} e f h g = rw (← e, ← f, ← g, eq-eqb v s.a h) refl
+checked b e f g = rw (e, f, g)
 
 -- ---- what is proved
 

@@ -5,8 +5,6 @@ ghost use Rattle.std.specs.Prelude.{◌≡◌, ◌+◌, ◌≤◌, ◌<◌, leng
 ghost use Rattle.little.specs.Little.{little};
 ghost use Rattle.log_check.specs.Check.{block_bytes, short_bytes, check_at, shorts_in, sums_of, checkb};
 
-use little::wide;
-
 // The bytes of a block; where its check stands, and its second half.
 pub const BLOCK_BYTES: usize = 512;
 
@@ -20,7 +18,7 @@ const SHORTS: usize = CHECK_AT / SHORT_BYTES;
 
 const SUM_VALUES: u64 = 65535;
 
-#[derive(Clone, Copy)]
+#[derive(Clone, Copy, PartialEq, Eq)]
 pub struct Sums {
     pub a: u64,
     pub b: u64,
@@ -32,7 +30,7 @@ fn short_at(bytes: &[u8], at: usize) -> u64
     ensures is { result ≡ little (take short_bytes (drop at bytes.now)) }
     ensures below { result < 65536 }
 {
-    wide(bytes[at]) + 256 * wide(bytes[at + 1])
+    u64::from(u16::from_le_bytes([bytes[at], bytes[at + 1]]))
 }
 
 // Neither sum of so few words can leave 64 bits: so they are taken modulo 65,535 once, at the end.
@@ -42,11 +40,9 @@ fn sum_up(block: &[u8]) -> Sums
 {
     let mut a: u64 = 0;
     let mut b: u64 = 0;
-    let mut i: usize = 0;
-    while i < SHORTS {
-        a = a + short_at(block, i * SHORT_BYTES);
-        b = b + a;
-        i = i + 1;
+    for i in 0..SHORTS {
+        a += short_at(block, i * SHORT_BYTES);
+        b += a;
     }
     Sums {
         a: a % SUM_VALUES,
@@ -60,12 +56,9 @@ pub fn is_checked(block: &[u8]) -> bool
     ensures { result ≡ checkb block.now }
 {
     let due = sum_up(block);
-    let a = due.a;
-    let b = due.b;
-    let first = short_at(block, CHECK_AT);
-    if first != a {
-        return false;
-    }
-    let second = short_at(block, SECOND_AT);
-    second == b
+    let told = Sums {
+        a: short_at(block, CHECK_AT),
+        b: short_at(block, SECOND_AT),
+    };
+    told == due
 }

@@ -18,13 +18,11 @@ use lib.Dec.{eqb, ltb}
 use lib.ListN.{drop}
 use Rattle.log_blocks.specs.Blocks.{records_at, most_records, count_in, records_in, blockb}
 use Rattle.log_blocks.specs.Records.{records_from}
-use Rattle.log_judge.specs.Carried.{stands, means, stands_after, damaged_after, someb, Going, Fits, Follows, Ends}
-use Rattle.log_judge.specs.Judged.{lastb, goodb, judged_from}
+use Rattle.log_judge.specs.Carried.{Standing, stands, means, stands_after, damaged_after, someb, Going, Fits, Follows, Ends}
+use Rattle.log_judge.specs.Judged.{Verdict, Agrees, Differs, Damaged, lastb, goodb, judged_from}
 use Rattle.log_judge.specs.declared.Judge.{Judge}
-use Rattle.log_judge.specs.declared.Standing.{Standing}
-use Rattle.log_judge.specs.declared.Standing.TheVariants as standing
-use Rattle.log_judge.specs.declared.Verdict.{Verdict}
-use Rattle.log_judge.specs.declared.Verdict.TheVariants.{Agrees, Differs, Damaged}
+use Rattle.log_judge.specs.declared.Fault.TheVariants as fault
+use Rattle.std.proofs.Common.{Ok, Err}
 use Rattle.log_play.specs.Lent.{FileFits, file_in, played_in}
 use Rattle.log_play.specs.Playing.{File, Played, played}
 use Rattle.log_play.specs.declared.Run.{Run}
@@ -43,7 +41,7 @@ bad_block i n f b bs e = rw e refl
 by_agreed : (n a k : ℕ) (v : Verdict) → cond (ltb a k) (Differs (n + a)) v ≡ stands (stands_after n a k) v
 by_agreed n a k v = go (ltb a k)
   where
-    go : (t : Bool) → cond t (Differs (n + a)) v ≡ stands (cond t (standing.Differing (n + a)) standing.Agreeing) v
+    go : (t : Bool) → cond t (Differs (n + a)) v ≡ stands (cond t (Err (fault.Differs (n + a))) (Ok tt)) v
     go true = refl
     go false = refl
 
@@ -157,7 +155,7 @@ module _ (j : Judge) (w v b : List ℕ) (h : Fits j) (g : Going j) (good : block
 
 -- ---- the judgement where nothing follows
 
-pub ends_none : (j : Judge) → j.standing ≡ standing.Agreeing → someb j ≡ false → Ends j (Damaged 0)
+pub ends_none : (j : Judge) → j.standing ≡ Ok tt → someb j ≡ false → Ends j (Damaged 0)
 unfolding judged_from lastb
 ends_none j e f w = rw e (go j.last (eqb j.blocks 0) f)
   where
@@ -166,7 +164,7 @@ ends_none j e f w = rw e (go j.last (eqb j.blocks 0) f)
     go false true h = refl
     go false false h = absurd (not_both refl h)
 
-pub ends_agreed : (j : Judge) → j.standing ≡ standing.Agreeing → someb j ≡ true → Ends j (Agrees j.records j.file.space.end)
+pub ends_agreed : (j : Judge) → j.standing ≡ Ok tt → someb j ≡ true → Ends j (Agrees j.records j.file.space.end)
 unfolding judged_from lastb
 ends_agreed j e f w = rw e (go j.last (eqb j.blocks 0) f)
   where

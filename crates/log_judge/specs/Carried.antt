@@ -1,5 +1,6 @@
 -- What the judge carries from block to block, and what it means: the judgement, whatever blocks may follow.
 --
+--   Standing            how a log stands after some blocks: all agree so far, or its fault
 --   stands s v          the judgement where a log stands as s: v, where all agree so far
 --   ended j             the judgement where nothing follows
 --   going j w bs        the judgement where the blocks bs follow, and a block may
@@ -15,21 +16,21 @@
 --   Ends j r            r is the judgement where nothing follows
 --
 -- Assumes nothing.
-use Rattle.std.specs.Prelude.{Bool, false, cond, not, ◌||◌, List, [], ◌++◌, ◌≡◌, ℕ, ◌+◌, ◌*◌, ◌^◌, ◌≤◌, ltb, eqb}
+use Rattle.std.specs.Prelude.{Bool, false, cond, not, ◌||◌, List, [], ◌++◌, ◌≡◌, ℕ, ◌+◌, ◌*◌, ◌^◌, ◌≤◌, ltb, eqb, Result, Ok, Err}
 use Rattle.little.specs.Little.{byte_values}
 use Rattle.log_blocks.specs.Blocks.{count_at, most_records}
-use Rattle.log_judge.specs.Judged.{lastb, judged_from, judged}
+use Rattle.log_judge.specs.Judged.{Verdict, Agrees, Damaged, lastb, judged_from, judged}
+use Rattle.log_judge.specs.declared.Fault.{Fault}
 use Rattle.log_judge.specs.declared.Judge.{Judge}
-use Rattle.log_judge.specs.declared.Standing.{Standing}
-use Rattle.log_judge.specs.declared.Standing.TheVariants as standing
-use Rattle.log_judge.specs.declared.Verdict.{Verdict}
-use Rattle.log_judge.specs.declared.Verdict.TheVariants.{Agrees, Differs, Damaged}
+use Rattle.log_judge.specs.declared.Fault.TheVariants as fault
 use Rattle.log_play.specs.Lent.{FileFits, file_in}
 
+abbrev pub Standing : Type 0
+Standing = Result (Unit {0}) Fault
+
 abbrev pub stands : Standing → Verdict → Verdict
-stands standing.Agreeing v = v
-stands (standing.Differing r) v = Differs r
-stands (standing.Damaged b) v = Damaged b
+stands (Ok u) v = v
+stands (Err f) v = Err f
 
 abbrev pub ended : Judge → Verdict
 ended j = stands j.standing (Agrees j.records j.file.space.end)
@@ -42,12 +43,12 @@ means j w bs = cond j.last (cond (lastb bs) (ended j) (Damaged j.blocks)) (going
 
 -- how a log stands behind n records that agree, and a more of the next k
 abbrev pub stands_after : ℕ → ℕ → ℕ → Standing
-stands_after n a k = cond (ltb a k) (standing.Differing (n + a)) standing.Agreeing
+stands_after n a k = cond (ltb a k) (Err (fault.Differs (n + a))) (Ok tt)
 
 abbrev pub damaged_after : Judge → Judge
 damaged_after j =
     record {
-      standing = standing.Damaged j.blocks;
+      standing = Err (fault.Damaged j.blocks);
       blocks = j.blocks;
       records = j.records;
       last = j.last;
@@ -63,7 +64,7 @@ abbrev pub most_blocks : ℕ
 most_blocks = byte_values ^ count_at
 
 pub record Going (j : Judge) : Type 0 where
-  pub agrees : j.standing ≡ standing.Agreeing
+  pub agrees : j.standing ≡ Ok tt
   pub open_end : j.last ≡ false
 
 pub record Fits (j : Judge) : Type 0 where

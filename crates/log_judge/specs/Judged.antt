@@ -1,5 +1,9 @@
 -- The judgement of a log (request E6), over any list of blocks, each of any bytes.
 --
+--   Verdict             a judgement: of a log that agrees its records and its end of file, and else its fault
+--   Agrees n e          n records agree, and e is the end of file behind them
+--   Differs r           r is the first record that disagrees
+--   Damaged b           b is the first bad block
 --   lastb bs            nothing follows
 --   goodb i b bs        the block b keeps every rule as the block with the number i, with the blocks bs behind it: where any follows it is full
 --   judged_from i n f bs the blocks bs judged, from the block i and the record n on, played on f
@@ -9,12 +13,29 @@
 --
 -- A block that is not good is damage; then the first record of it that does not agree is a difference; and else the next block decides. A log without a
 -- block is damage of block 0. Assumes nothing.
-use Rattle.std.specs.Prelude.{Bool, true, false, cond, ◌&&◌, ◌||◌, List, [], ◌∷◌, ℕ, zero, suc, ◌+◌, ◌-◌, ◌/◌, eqb, ltb, length, take, drop}
+use Rattle.std.specs.Prelude.{Bool, true, false, cond, ◌&&◌, ◌||◌, List, [], ◌∷◌, ℕ, zero, suc, ◌+◌, ◌-◌, ◌/◌, eqb, ltb, length, take, drop, Result, Ok, Err}
 use Rattle.log_play.specs.Playing.{File, no_file, played}
-use Rattle.log_judge.specs.declared.Verdict.{Verdict}
-use Rattle.log_judge.specs.declared.Verdict.TheVariants.{Agrees, Differs, Damaged}
+use Rattle.log_judge.specs.declared.Agreement.{Agreement}
+use Rattle.log_judge.specs.declared.Fault.{Fault}
+use Rattle.log_judge.specs.declared.Fault.TheVariants as fault
 use Rattle.log_blocks.specs.Blocks.{most_records, count_in, records_in, blockb}
 use Rattle.log_check.specs.Check.{block_bytes}
+
+-- ---- the judgements
+
+abbrev pub Verdict : Type 0
+Verdict = Result Agreement Fault
+
+abbrev pub Agrees : ℕ → ℕ → Verdict
+Agrees n e = Ok (record { records = n; end = e })
+
+abbrev pub Differs : ℕ → Verdict
+Differs r = Err (fault.Differs r)
+
+abbrev pub Damaged : ℕ → Verdict
+Damaged b = Err (fault.Damaged b)
+
+-- ---- the judgement of blocks
 
 unfoldable pub lastb : List (List ℕ) → Bool
 lastb [] = true

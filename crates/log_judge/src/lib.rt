@@ -7,7 +7,7 @@
 //   conclude      after the last
 #![tactic(auto)]
 
-ghost use Rattle.std.specs.Prelude.{[], ◌∷◌, ◌≡◌, ◌+◌, ◌^◌, ◌<◌, min};
+ghost use Rattle.std.specs.Prelude.{[], ◌∷◌, ◌≡◌, ◌+◌, ◌^◌, ◌<◌};
 ghost use Rattle.log_judge.specs.Carried.{stands_after, damaged_after, someb, Going, Fits, Starts, Follows, Ends};
 ghost use Rattle.log_check.specs.Check.{block_bytes};
 ghost use Rattle.log_judge.specs.Judged.{judged, blocks_of};
@@ -22,19 +22,17 @@ use space::Space;
 
 pub const TABLE_WORDS: usize = LARGEST_CAPACITY * ENTRY_WORDS;
 
-// The judgement: how many records and the end of file, the first record that disagrees, or the first bad block.
-#[derive(Clone, Copy)]
-pub enum Verdict {
-    Agrees(u64, u64),
-    Differs(u64),
-    Damaged(u64),
+// What a log comes to that agrees: how many records it has, and the end of file behind them.
+#[derive(Clone, Copy, PartialEq, Eq)]
+pub struct Agreement {
+    pub records: u64,
+    pub end: u64,
 }
 
-// How a log stands after some blocks.
-#[derive(Clone, Copy)]
-pub enum Standing {
-    Agreeing,
-    Differing(u64),
+// Why a log does not agree: the first record that disagrees, or the first bad block.
+#[derive(Clone, Copy, PartialEq, Eq)]
+pub enum Fault {
+    Differs(u64),
     Damaged(u64),
 }
 
@@ -42,7 +40,7 @@ pub enum Standing {
 // than a full one, so that nothing may follow it; and the file.
 #[derive(Clone, Copy)]
 pub struct Judge {
-    pub standing: Standing,
+    pub standing: Result<(), Fault>,
     pub blocks: u64,
     pub records: u64,
     pub last: bool,
@@ -54,7 +52,7 @@ pub fn start() -> Judge
     ensures { Starts result }
 {
     Judge {
-        standing: Standing::Agreeing,
+        standing: Ok(()),
         blocks: 0,
         records: 0,
         last: false,
@@ -74,25 +72,21 @@ pub fn start() -> Judge
 fn damaged(judge: Judge) -> Judge
     ensures { result ≡ damaged_after judge }
 {
-    let file = judge.file;
     Judge {
-        standing: Standing::Damaged(judge.blocks),
-        blocks: judge.blocks,
-        records: judge.records,
-        last: judge.last,
-        file,
+        standing: Err(Fault::Damaged(judge.blocks)),
+        ..judge
     }
 }
 
 // How a log stands behind so many records that agree, and some more of the next ones.
-fn stand(records: u64, agreed: u64, count: u64) -> Standing
+fn stand(records: u64, agreed: u64, count: u64) -> Result<(), Fault>
     requires { records + agreed < 2 ^ 64 }
     ensures { result ≡ stands_after records agreed count }
 {
     if agreed < count {
-        return Standing::Differing(records + agreed);
+        return Err(Fault::Differs(records + agreed));
     }
-    Standing::Agreeing
+    Ok(())
 }
 
 // The next block of a log that agrees so far, and may go on: it is tested first, and then its records are played.
@@ -135,11 +129,9 @@ pub fn next(judge: Judge, block: &[u8], table: &mut [u64]) -> Judge
     if judge.last {
         return damaged(judge);
     }
-    let standing = judge.standing;
-    match standing {
-        Standing::Agreeing => judge_block(judge, block, table),
-        Standing::Differing(_) => judge,
-        Standing::Damaged(_) => judge,
+    match judge.standing {
+        Ok(()) => judge_block(judge, block, table),
+        Err(_) => judge,
     }
 }
 
@@ -147,40 +139,21 @@ pub fn next(judge: Judge, block: &[u8], table: &mut [u64]) -> Judge
 fn has_block(judge: Judge) -> bool
     ensures { result ≡ someb judge }
 {
-    if judge.last {
-        return true;
-    }
-    judge.blocks != 0
+    judge.last || judge.blocks != 0
 }
 
 // The judgement where nothing follows. A log without a block is damaged.
-pub fn conclude(judge: Judge) -> Verdict
+pub fn conclude(judge: Judge) -> Result<Agreement, Fault>
     ensures { Ends judge result }
 {
-    let standing = judge.standing;
-    match standing {
-        Standing::Agreeing => {
-            if !has_block(judge) {
-                return Verdict::Damaged(0);
-            }
-            let file = judge.file;
-            let space = file.space;
-            Verdict::Agrees(judge.records, space.end)
-        }
-        Standing::Differing(record) => Verdict::Differs(record),
-        Standing::Damaged(block) => Verdict::Damaged(block),
+    judge.standing?;
+    if !has_block(judge) {
+        return Err(Fault::Damaged(0));
     }
-}
-
-// Where the block ends that starts at a place: the last one of a log may be short.
-fn block_end(at: usize, len: usize) -> usize
-    requires { at < len }
-    ensures { result ≡ min (at + block_bytes) len }
-{
-    if len - at < BLOCK_BYTES {
-        return len;
-    }
-    at + BLOCK_BYTES
+    Ok(Agreement {
+        records: judge.records,
+        end: judge.file.space.end,
+    })
 }
 
 // The blocks that a part of a log is cut into, one after the other.
@@ -189,17 +162,14 @@ pub fn next_blocks(judge: Judge, part: &[u8], table: &mut [u64]) -> Judge
     ensures { Follows judge table.old (blocks_of part.now) result table.new }
 {
     let mut carried = judge;
-    let mut at: usize = 0;
-    while at < part.len() {
-        let end = block_end(at, part.len());
-        carried = next(carried, &part[at..end], table);
-        at = end;
+    for block in part.chunks(BLOCK_BYTES) {
+        carried = next(carried, block, table);
     }
     carried
 }
 
 // A whole log, over a table of its own.
-pub fn judge_log(log: &[u8]) -> Verdict
+pub fn judge_log(log: &[u8]) -> Result<Agreement, Fault>
     ensures { result ≡ judged (blocks_of log.now) }
 {
     let mut table = [0u64; TABLE_WORDS];

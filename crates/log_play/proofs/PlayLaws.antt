@@ -1,11 +1,9 @@
 -- The laws of records that are played.
 --
 --   words_few, words_many, words_some   the words of a table for so many entries
---   call_allocate .. call_shorten       the call that a record is, by its operation
 --   heard_open, heard_call_lem          what is heard of an open, and of any other record
 --   front_long                          words that were put in front of others, as many as stood there
 --   call_heard                          what is heard of a call over a lent table
---   compared_not, compared              the refusal number differs; it does not, and the answer decides
 --   plus i p                            what is played behind i records that agree
 --   play_stops, play_next, play_ends    records that are played: one that does not agree, one that does, none left
 use Prim.Native.Nat.{ℕ, suc, ◌+◌, ◌*◌, ◌≤◌, ◌<◌}
@@ -13,16 +11,15 @@ use mathlib.Core.Bool.{Bool, true, false}
 use mathlib.Core.List.{List, ◌∷◌, ◌++◌}
 use mathlib.Core.Path.{◌≡◌, refl, ap, ◌∙◌}
 use native.Mathlib.Omega.{arith}
-use lib.Dec.{eqb, leb}
+use lib.Dec.{leb}
 use lib.ListN.{length, take, drop, length-append, length-drop}
 use lib.Seq.{take_at}
 use Rattle.call.specs.Answered.{answered, answer_said}
 use Rattle.call.specs.declared.Call.{Call}
 use Rattle.call.specs.declared.Told as call
-use Rattle.call.specs.declared.Call.TheVariants.{Allocate, Release, Extend, Shorten}
 use Rattle.log_blocks.proofs.RecordLaws.{records_left, records_next, records_end}
 use Rattle.log_blocks.specs.Blocks.{records_at}
-use Rattle.log_blocks.specs.Records.{record_bytes, opens, allocates, releases, extends, record_in}
+use Rattle.log_blocks.specs.Records.{record_bytes, opens, record_in}
 use Rattle.log_blocks.specs.declared.records.Record.{Record}
 use Rattle.log_play.specs.Lent.{file_in, heard_in}
 use Rattle.log_play.specs.declared.Held.{Held}
@@ -48,24 +45,6 @@ words_some C h k = rw (le-leb least_capacity C h, le-leb C largest_capacity k) r
 
 -- ---- the call
 
-pub call_allocate : (r : Record) → r.operation ≡ allocates → Allocate r.code r.size ≡ call_of r
-unfolding call_of
-call_allocate r o = rw (eq-eqb r.operation allocates o) refl
-
-pub call_release : (r : Record) → (r.operation ≡ allocates → ⊥) → r.operation ≡ releases → Release r.address r.size ≡ call_of r
-unfolding call_of
-call_release r a o = rw (ne_eqb r.operation allocates a, eq-eqb r.operation releases o) refl
-
-pub call_extend : (r : Record) → (r.operation ≡ allocates → ⊥) → (r.operation ≡ releases → ⊥) → r.operation ≡ extends
-    → Extend r.address r.size r.change ≡ call_of r
-unfolding call_of
-call_extend r a b o = rw (ne_eqb r.operation allocates a, ne_eqb r.operation releases b, eq-eqb r.operation extends o) refl
-
-pub call_shorten : (r : Record) → (r.operation ≡ allocates → ⊥) → (r.operation ≡ releases → ⊥) → (r.operation ≡ extends → ⊥)
-    → Shorten r.address r.size r.change ≡ call_of r
-unfolding call_of
-call_shorten r a b o = rw (ne_eqb r.operation allocates a, ne_eqb r.operation releases b, ne_eqb r.operation extends o) refl
-
 pub heard_open : (r : Record) (f : File) → r.operation ≡ opens → hear_open r ≡ heard r f
 unfolding heard
 heard_open r f o = rw (eq-eqb r.operation opens o) refl
@@ -85,16 +64,6 @@ pub call_heard : (said : Record) (h : Held) (u : List ℕ) (t : call.Told) (v w 
     ≡ heard said (file_in h u)
 call_heard said h u t v w o e l a =
     rw (take_at v w h.used l) (ap heard_of (rw e at a)) ∙ heard_call_lem said (file_in h u) o
-
--- ---- the comparison
-
-pub compared_not : (r : Record) (h : Heard) → (r.refusal ≡ h.refusal → ⊥) → false ≡ agreesb r h
-unfolding agreesb
-compared_not r h e = rw (ne_eqb r.refusal h.refusal e) refl
-
-pub compared : (r : Record) (h : Heard) → r.refusal ≡ h.refusal → eqb r.answer h.answer ≡ agreesb r h
-unfolding agreesb
-compared r h e = rw (eq-eqb r.refusal h.refusal e) refl
 
 -- ---- records that are played
 

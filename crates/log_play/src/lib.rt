@@ -14,7 +14,7 @@ use call::Call;
 use log_blocks::records::{ALLOCATE, EXTEND, OPEN, RELEASE, Record};
 use moves::clear_all;
 use pieces::ENTRY_WORDS;
-use refusals::open_number;
+use refusals::number_of;
 use sound::{LARGEST_CAPACITY, LEAST_CAPACITY};
 use space::Space;
 use space::answers::Opened;
@@ -42,6 +42,7 @@ pub struct Run {
 }
 
 // The words of a table for so many entries; none, where an open takes no such table.
+#[tactic(auto, unfolding(crate::specs::Playing::words_for))]
 fn words_for(entries: u64) -> usize
     ensures { (result ≡ words_for entries) × (result ≤ table_words) }
 {
@@ -71,28 +72,24 @@ fn open_anew(said: Record, table: &mut [u64]) -> Told
     let used = words_for(said.address);
     let done = open_blank(said.size, said.change, &mut table[..used]);
     let space = done.space;
-    let answer = done.answer;
     Told {
-        number: open_number(answer),
+        number: number_of(done.answer),
         answer: 0,
         file: Held { space, used },
     }
 }
 
 // The call that a record is, but for an open.
+#[tactic(auto, unfolding(crate::specs::Playing::call_of))]
 fn call_of(said: Record) -> Call
     ensures { result ≡ call_of said }
 {
-    if said.operation == ALLOCATE {
-        return Call::Allocate(said.code, said.size);
+    match said.operation {
+        ALLOCATE => Call::Allocate(said.code, said.size),
+        RELEASE => Call::Release(said.address, said.size),
+        EXTEND => Call::Extend(said.address, said.size, said.change),
+        _ => Call::Shorten(said.address, said.size, said.change),
     }
-    if said.operation == RELEASE {
-        return Call::Release(said.address, said.size);
-    }
-    if said.operation == EXTEND {
-        return Call::Extend(said.address, said.size, said.change);
-    }
-    Call::Shorten(said.address, said.size, said.change)
 }
 
 fn hear(said: Record, file: Held, table: &mut [u64]) -> Told
@@ -115,15 +112,11 @@ fn hear(said: Record, file: Held, table: &mut [u64]) -> Told
 }
 
 // Whether the record says what was told.
+#[tactic(auto, unfolding(crate::specs::Playing::agreesb))]
 fn agrees(said: Record, told: Told) -> bool
     ensures { Compares said told result }
 {
-    let recorded = said.answer;
-    let answer = told.answer;
-    if said.refusal != told.number {
-        return false;
-    }
-    recorded == answer
+    (said.refusal, said.answer) == (told.number, told.answer)
 }
 
 // The first records of a block, up to the first one that does not agree.
@@ -133,19 +126,16 @@ pub fn play(block: &[u8], count: usize, file: Held, table: &mut [u64]) -> Run
     ensures fits { FileFits result.file × (result.agreed ≤ count) }
 {
     let mut held = file;
-    let mut i: usize = 0;
-    while i < count {
+    for i in 0..count {
         let said = log_blocks::record_at(block, i);
         let told = hear(said, held, table);
-        let left = told.file;
+        held = told.file;
         if !agrees(said, told) {
             return Run {
                 agreed: i,
-                file: left,
+                file: held,
             };
         }
-        held = left;
-        i = i + 1;
     }
     Run {
         agreed: count,

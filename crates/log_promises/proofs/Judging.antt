@@ -21,9 +21,9 @@ use lib.Seq.{take-add, take_all, take-length}
 use borrow.Author.Tests.{ltb-true, ltb-false, lt-ltb, le-ltb}
 use Rattle.log_blocks.specs.Blocks.{records_in}
 use Rattle.log_blocks.specs.declared.records.Record.{Record}
-use Rattle.log_judge.specs.Judged.{judged_from, judged}
-use Rattle.log_judge.specs.declared.Verdict.{Verdict}
-use Rattle.log_judge.specs.declared.Verdict.TheVariants.{Agrees, Differs, Damaged}
+use Rattle.log_judge.specs.declared.Fault.TheVariants as fault
+use Rattle.std.proofs.Common.{Ok, Err}
+use Rattle.log_judge.specs.Judged.{Verdict, Agrees, Differs, Damaged, judged_from, judged}
 use Rattle.log_play.specs.Playing.{no_file}
 use Rattle.log_promises.specs.Logs.{records_of_all, first_records, left_by}
 use Rattle.log_promises.specs.Logs.{DamagedAt, DiffersAt, AgreesWith, LogDamaged, LogDiffers, LogAgrees}
@@ -39,9 +39,9 @@ records_append [] cs = refl
 records_append (b ∷ bs) cs = rw (records_append bs cs) (sym (append_assoc (records_in b) (records_of_all bs) (records_of_all cs)))
 
 abbrev Says : List (List ℕ) → Verdict → Type 0
-Says bs (Damaged B) = DamagedAt bs B
-Says bs (Differs R) = DiffersAt bs R
-Says bs (Agrees R E) = AgreesWith bs R E
+Says bs (Err (fault.Damaged B)) = DamagedAt bs B
+Says bs (Err (fault.Differs R)) = DiffersAt bs R
+Says bs (Ok a) = AgreesWith bs a.records a.end
 
 says_none : DamagedAt [] 0
 unfolding records_of_all

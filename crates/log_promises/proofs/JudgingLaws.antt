@@ -21,9 +21,7 @@ use lib.ListN.{length, drop, get_or, length-append}
 use borrow.Author.Tests.{lt-ltb, le-ltb, ne_eqb}
 use Rattle.log_blocks.proofs.RecordLaws.{length_records}
 use Rattle.log_blocks.specs.Blocks.{count_in, records_in}
-use Rattle.log_judge.specs.Judged.{goodb, judged_from}
-use Rattle.log_judge.specs.declared.Verdict.{Verdict}
-use Rattle.log_judge.specs.declared.Verdict.TheVariants.{Agrees, Differs, Damaged}
+use Rattle.log_judge.specs.Judged.{Verdict, Agrees, Differs, Damaged, goodb, judged_from}
 use Rattle.log_play.specs.Playing.{File, played}
 use Rattle.log_promises.specs.Logs.{GoodAt, records_of_all, first_records, left_by}
 use Rattle.log_promises.proofs.PlayedLaws.{First, first_next, agreed, played_left, left_append, agreed_full, agreed_front}

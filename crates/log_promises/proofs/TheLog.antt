@@ -10,7 +10,7 @@ use lib.Dec.{lit<, lit≤}
 use Rattle.demands.proofs.Run.{the_run}
 use Rattle.demands.specs.Calls.{Call, called, ran, Ran, OnSpace, allocating, releasing, extending, shortening}
 use Rattle.demands.specs.Run.{twelve_steps, calls_of}
-use Rattle.log_judge.specs.declared.Verdict.TheVariants.{Agrees}
+use Rattle.log_judge.specs.Judged.{Agrees}
 use Rattle.log_promises.proofs.Recorded.{log_recorded}
 use Rattle.log_promises.proofs.RoomLaws.{AllRecordable}
 use Rattle.log_promises.specs.Logs.{LogOfTheRun}

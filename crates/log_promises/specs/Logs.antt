@@ -38,8 +38,7 @@ use Rattle.log_blocks.specs.Blocks.{count_at, most_records, records_in, blockb}
 use Rattle.log_blocks.specs.Records.{record_in}
 use Rattle.log_blocks.specs.declared.records.Record.{Record}
 use Rattle.log_check.specs.Check.{block_bytes}
-use Rattle.log_judge.specs.Judged.{goodb, judged, blocks_of}
-use Rattle.log_judge.specs.declared.Verdict.TheVariants.{Agrees, Differs, Damaged}
+use Rattle.log_judge.specs.Judged.{Agrees, Differs, Damaged, goodb, judged, blocks_of}
 use Rattle.log_play.specs.Playing.{File, no_file, hear_open, heard, agreesb}
 use Rattle.log_promises.specs.Recording.{block_of, log_of, Word, Fills, records_of, Recordable}
 use Rattle.pieces.specs.Words.{entry_words}

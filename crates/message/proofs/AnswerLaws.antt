@@ -12,6 +12,7 @@ use native.Mathlib.Decide.{ℕ_discrete}
 use lib.Dec.{lit<}
 use lib.ListN.{length, drop}
 use borrow.Author.Tests.{eq-eqb, ne_eqb, lt-ltb, le-ltb}
+use Rattle.std.proofs.Common.{Ok, Err}
 use Rattle.little.specs.Little.{value_at}
 use Rattle.message.specs.Message.{reading, refused_write, written, Wrote, write_said}
 use Rattle.message_bytes.proofs.PartLaws.{length_by_head}
@@ -20,7 +21,6 @@ use Rattle.message_fields.proofs.FieldLaws.{follows_whole, follows_behind}
 use Rattle.message_fields.specs.Fields.{version, Held, least_length, length_of, refused_read, follows_at}
 use Rattle.message_fields.specs.Layout.{version_at, strategy_at}
 use Rattle.message_fields.specs.Legal.{legalb}
-use Rattle.message_fields.specs.declared.Answer.TheVariants.{Done, Refused}
 use Rattle.message_fields.specs.declared.Fields.{Fields}
 use Rattle.message_fields.specs.declared.Refusal.TheVariants.{Short, Field}
 use Rattle.pages.proofs.Numbers.{split}
@@ -106,12 +106,12 @@ module _ (f : Fields) (b : List ℕ) where
 
   -- ---- what a write did
 
-  pub wrote_field : Held f → legalb f ≡ false → Wrote f b (write_said (Refused Field) b)
+  pub wrote_field : Held f → legalb f ≡ false → Wrote f b (write_said (Err Field) b)
   wrote_field h l = record { held = h; outcome = sym (write_field l) }
 
-  pub wrote_short : Held f → legalb f ≡ true → length b < length_of f → Wrote f b (write_said (Refused Short) b)
+  pub wrote_short : Held f → legalb f ≡ true → length b < length_of f → Wrote f b (write_said (Err Short) b)
   wrote_short h l n = record { held = h; outcome = sym (write_short l n) }
 
   pub wrote_done : {c : List ℕ} → Held f → legalb f ≡ true → length_of f ≤ length b → c ≡ message_of f ++ drop (length_of f) b
-      → Wrote f b (write_said Done c)
-  wrote_done h l n e = record { held = h; outcome = ap (write_said Done) e ∙ sym (write_done l n) }
+      → Wrote f b (write_said (Ok tt) c)
+  wrote_done h l n e = record { held = h; outcome = ap (write_said (Ok tt)) e ∙ sym (write_done l n) }

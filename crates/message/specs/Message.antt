@@ -11,10 +11,10 @@
 --
 -- What is proved of these is in message_promises/specs/Promises.antt. Not here: the fields, the answers with their numbers and where the part
 -- behind a message starts (message_fields/specs), the fields in bytes (message_bytes/specs).
-use Rattle.std.specs.Prelude.{◌≡◌, cond, not, List, ◌++◌, ℕ, ltb, eqb, length, drop}
+use Rattle.std.specs.Prelude.{◌≡◌, Result, cond, not, List, ◌++◌, ℕ, ltb, eqb, length, drop}
 use Rattle.little.specs.Little.{value_at}
 use Rattle.message_fields.specs.declared.Fields.{Fields}
-use Rattle.message_fields.specs.declared.Answer.{Answer}
+use Rattle.message_fields.specs.declared.Refusal.{Refusal}
 use Rattle.message_fields.specs.Fields.{version, Held, least_length, length_of, number_of, ReadOutcome, refused_read, follows_at}
 use Rattle.message_fields.specs.Layout.{version_at, strategy_at}
 use Rattle.message_fields.specs.Legal.{legalb}
@@ -36,7 +36,7 @@ pub record WriteOutcome : Type 0 where
   pub refusal : ℕ
   pub bytes : List ℕ
 
-abbrev pub write_said : Answer → List ℕ → WriteOutcome
+abbrev pub write_said : Result Unit Refusal → List ℕ → WriteOutcome
 write_said a c = record { refusal = number_of a; bytes = c }
 
 abbrev pub refused_write : ℕ → List ℕ → WriteOutcome

@@ -51,10 +51,11 @@ pub fn with_addresses(head: Fields, bytes: &[u8]) -> Fields
     }
     let small = addresses(&bytes[SMALL_AT..LARGE_AT]);
     let large = addresses(&bytes[LARGE_AT..FULL_LENGTH]);
-    let mut fields = head;
-    fields.small = small;
-    fields.large = large;
-    fields
+    Fields {
+        small,
+        large,
+        ..head
+    }
 }
 
 // Writes the addresses of one part.
@@ -75,7 +76,7 @@ fn put_head(fields: Fields, head: &mut [u8])
     head[PERSIST_AT] = fields.persist;
     little::put_part(fields.threshold, head, THRESHOLD_AT, PAGE_AT);
     little::put_part(fields.page, head, PAGE_AT, PAGE_END_AT);
-    little::put_part(fields.page_end as u64, head, PAGE_END_AT, EOA_AT);
+    little::put_part(u64::from(fields.page_end), head, PAGE_END_AT, EOA_AT);
     little::put_part(fields.eoa, head, EOA_AT, HEAD_LENGTH);
 }
 

@@ -4,32 +4,14 @@
 -- each of its outcomes.
 --
 -- Not here: the rules as facts (message_promises/proofs/RuleLaws.antt), laws of single tests (borrow.Author.Tests).
-use Prim.Native.Nat.{ℕ, ◌+◌, ◌≤◌, ◌<◌}
+use Prim.Native.Nat.{ℕ, ◌≤◌}
 use mathlib.Core.Bool.{true, false}
 use mathlib.Core.List.{List}
 use mathlib.Core.Path.{◌≡◌}
-use native.Mathlib.Numerals.{add-one}
-use lib.ListN.{length, drop, get_or, drop_of_length-le}
-use lib.Seq.{drop-cons}
-use borrow.Author.Tests.{eq-eqb, ne_eqb, le-leb, lt-leb}
+use borrow.Author.Tests.{eq-eqb, ne_eqb, le-leb}
 use Rattle.pages.specs.Pages.{page_sizeb}
-use Rattle.message_fields.specs.Legal.{last_strategy, last_persist, undefined, undefinedb, addressesb, legalb}
+use Rattle.message_fields.specs.Legal.{last_strategy, last_persist, undefinedb, addressesb, legalb}
 use Rattle.message_fields.specs.declared.Fields.{Fields}
-
--- ---- addresses that are all undefined
-
-module _ (vs : List ℕ) (i : ℕ) where
-  pub undefined_next : i < length vs → get_or vs i 0 ≡ undefined → undefinedb (drop (i + 1) vs) ≡ undefinedb (drop i vs)
-  unfolding undefinedb
-  undefined_next h e = rw (add-one, drop-cons vs i 0 h, eq-eqb (get_or vs i 0) undefined e)
-
-  pub undefined_stop : i < length vs → (get_or vs i 0 ≡ undefined → ⊥) → false ≡ undefinedb (drop i vs)
-  unfolding undefinedb
-  undefined_stop h e = rw (drop-cons vs i 0 h, ne_eqb (get_or vs i 0) undefined e)
-
-  pub undefined_end : length vs ≤ i → true ≡ undefinedb (drop i vs)
-  unfolding undefinedb
-  undefined_end h = rw (drop_of_length-le vs h)
 
 -- ---- what the persist byte allows
 
@@ -49,18 +31,6 @@ module _ (p : ℕ) (s l : List ℕ) where
 -- ---- the rules of the fields
 
 module _ (f : Fields) where
-  pub legal_strategy : last_strategy < f.strategy → legalb f ≡ false
-  unfolding legalb
-  legal_strategy h = rw (lt-leb f.strategy last_strategy h)
-
-  pub legal_persist : f.strategy ≤ last_strategy → last_persist < f.persist → legalb f ≡ false
-  unfolding legalb
-  legal_persist h k = rw (le-leb f.strategy last_strategy h, lt-leb f.persist last_persist k)
-
-  pub legal_page : f.strategy ≤ last_strategy → f.persist ≤ last_persist → page_sizeb f.page ≡ false → legalb f ≡ false
-  unfolding legalb
-  legal_page h k e = rw (le-leb f.strategy last_strategy h, le-leb f.persist last_persist k, e)
-
   pub legal_addresses : f.strategy ≤ last_strategy → f.persist ≤ last_persist → page_sizeb f.page ≡ true
       → legalb f ≡ addressesb f.persist f.small f.large
   unfolding legalb

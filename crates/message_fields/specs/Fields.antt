@@ -7,21 +7,18 @@
 --   length_of f            how long the message of f is: its head, and the addresses behind it
 --   no_fields             the fields of a refused message: all 0
 --
---   number_of a            document 01's number for an answer; refusal_number why for a refusal
+--   number_of a            document 01's number for an answer, of a read or of a write; refusal_number why for a refusal
 --   ReadOutcome           what reading hands back: its refusal number (0 if accepted), and the fields
---   read_said r           what a read said, in document 01's numbers
+--   read_said r           what a read said, in document 01's numbers: where it is refused the fields are those of `no_fields`
 --   refused_read n        refused with n: no fields
 --   follows_at o          where the part behind a message that was read as o starts: at the front on a refusal
 --
 -- Laws are in proofs/FieldLaws.antt.
-use Rattle.std.specs.Prelude.{cond, ◌≡◌, ℕ, ◌+◌, ◌-◌, ◌*◌, ◌^◌, ◌<◌, eqb, length, replicate}
+use Rattle.std.specs.Prelude.{Result, Ok, Err, cond, ◌≡◌, ℕ, ◌+◌, ◌-◌, ◌*◌, ◌^◌, ◌<◌, eqb, length, replicate}
 use Rattle.little.specs.Little.{byte_values, Below}
 use Rattle.message_fields.specs.declared.Fields.{Fields}
-use Rattle.message_fields.specs.declared.Read.{Read}
 use Rattle.message_fields.specs.declared.Refusal.{Refusal}
 use Rattle.message_fields.specs.declared.Refusal.TheVariants.{Short, Version, Field}
-use Rattle.message_fields.specs.declared.Answer.{Answer}
-use Rattle.message_fields.specs.declared.Answer.TheVariants.{Done, Refused}
 use Rattle.message_fields.specs.Layout.{strategy_at, persist_at, threshold_at, page_at, page_end_at, eoa_at, head_length}
 use Rattle.message_fields.specs.Layout.{types, address_width, most_addresses}
 use Rattle.refusals.specs.AnswerNumbers.{slice_too_short, other_version, broken_field}
@@ -72,19 +69,20 @@ refusal_number Short = slice_too_short
 refusal_number Version = other_version
 refusal_number Field = broken_field
 
-abbrev pub number_of : Answer → ℕ
-number_of Done = 0
-number_of (Refused why) = refusal_number why
+abbrev pub number_of : {T : Type 0} → Result T Refusal → ℕ
+number_of (Ok x) = 0
+number_of (Err why) = refusal_number why
 
 pub record ReadOutcome : Type 0 where
   pub refusal : ℕ
   pub fields : Fields
 
-abbrev pub read_said : Read → ReadOutcome
-read_said r = record { refusal = number_of r.answer; fields = r.fields }
-
 abbrev pub refused_read : ℕ → ReadOutcome
 refused_read n = record { refusal = n; fields = no_fields }
+
+abbrev pub read_said : Result Fields Refusal → ReadOutcome
+read_said (Ok f) = record { refusal = 0; fields = f }
+read_said (Err why) = refused_read (refusal_number why)
 
 unfoldable pub follows_at : ReadOutcome → ℕ
 follows_at o = cond (eqb o.refusal 0) (length_of o.fields) 0

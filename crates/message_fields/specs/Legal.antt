@@ -7,7 +7,8 @@
 --   legalb f              whether the fields f keep every rule
 --
 -- Laws are in proofs/LegalLaws.antt.
-use Rattle.std.specs.Prelude.{Bool, true, cond, ◌&&◌, List, [], ◌∷◌, ℕ, leb, eqb}
+use Rattle.std.specs.Prelude.{Bool, true, cond, ◌&&◌, List, ℕ, leb, eqb}
+use Rattle.std.specs.List.{list_all}
 use Rattle.pages.specs.Pages.{page_sizeb}
 use Rattle.message_fields.specs.declared.Fields.{Fields}
 
@@ -20,9 +21,8 @@ last_persist = 1
 abbrev pub undefined : ℕ
 undefined = 18446744073709551615
 
-unfoldable pub undefinedb : List ℕ → Bool
-undefinedb [] = true
-undefinedb (v ∷ vs) = eqb v undefined && undefinedb vs
+abbrev pub undefinedb : List ℕ → Bool
+undefinedb vs = list_all (λ v. eqb v undefined) vs
 
 unfoldable pub addressesb : ℕ → List ℕ → List ℕ → Bool
 addressesb p s l = cond (eqb p 0) (undefinedb s && undefinedb l) true

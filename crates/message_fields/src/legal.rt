@@ -15,43 +15,24 @@ pub const UNDEFINED: u64 = 18446744073709551615;
 fn are_undefined(addresses: [u64; TYPES]) -> bool
     ensures { result ≡ undefinedb addresses }
 {
-    let mut i = 0;
-    while i < TYPES {
-        if addresses[i] != UNDEFINED {
-            return false;
-        }
-        i += 1;
-    }
-    true
+    addresses.iter().all(|address| *address == UNDEFINED)
 }
 
 // Whether the addresses are such as the persist byte allows.
+#[tactic(auto, unfolding(crate::specs::Legal::addressesb))]
 fn addresses_keep(persist: u8, small: [u64; TYPES], large: [u64; TYPES]) -> bool
     ensures { result ≡ addressesb persist small large }
 {
-    if persist != 0 {
-        return true;
-    }
-    if are_undefined(small) {
-        return are_undefined(large);
-    }
-    false
+    persist != 0 || are_undefined(small) && are_undefined(large)
 }
 
 // Whether the fields keep every rule.
+#[tactic(auto, unfolding(crate::specs::Legal::legalb))]
 pub fn is_legal(fields: Fields) -> bool
     ensures { result ≡ legalb fields }
 {
-    if LAST_STRATEGY < fields.strategy {
-        return false;
-    }
-    if LAST_PERSIST < fields.persist {
-        return false;
-    }
-    if pages::is_page_size(fields.page) {
-        let small = fields.small;
-        let large = fields.large;
-        return addresses_keep(fields.persist, small, large);
-    }
-    false
+    fields.strategy <= LAST_STRATEGY
+        && fields.persist <= LAST_PERSIST
+        && pages::is_page_size(fields.page)
+        && addresses_keep(fields.persist, fields.small, fields.large)
 }

@@ -5,7 +5,7 @@
 pub mod legal;
 
 ghost use Rattle.std.specs.Prelude.{◌≡◌};
-ghost use Rattle.message_fields.specs.Fields.{number_of, refusal_number, no_fields, read_said, refused_read, length_of, follows_at};
+ghost use Rattle.message_fields.specs.Fields.{number_of, no_fields, read_said, length_of, follows_at};
 
 use refusals::{BROKEN_FIELD, DONE, OTHER_VERSION, SLICE_TOO_SHORT};
 
@@ -42,7 +42,7 @@ pub const LEAST_LENGTH: usize = HEAD_LENGTH;
 pub const VERSION: u8 = 1;
 
 // The fields but for the version. The type order is superblock, B-tree, raw, global heap, local heap, object header.
-#[derive(Clone, Copy)]
+#[derive(Clone, Copy, Debug, PartialEq, Eq)]
 pub struct Fields {
     pub strategy: u8,
     pub persist: u8,
@@ -54,65 +54,51 @@ pub struct Fields {
     pub large: [u64; TYPES],
 }
 
-#[derive(Clone, Copy)]
+// Why a message is refused.
+#[derive(Clone, Copy, Debug, PartialEq, Eq)]
 pub enum Refusal {
     Short,
     Version,
     Field,
 }
 
-#[derive(Clone, Copy)]
-pub enum Answer {
-    Done,
-    Refused(Refusal),
-}
-
-// The answer stands beside the fields, which are all 0 where the message is refused.
-#[derive(Clone, Copy)]
-pub struct Read {
-    pub answer: Answer,
-    pub fields: Fields,
-}
-
-// Document 01's number for an answer.
-pub fn number_of(answer: Answer) -> u64
+// Document 01's number for an answer: of a read with its fields, or of a write.
+pub fn number_of<T: Copy>(answer: Result<T, Refusal>) -> u64
     ensures { result ≡ number_of answer }
 {
     match answer {
-        Answer::Done => DONE,
-        Answer::Refused(why) => match why {
-            Refusal::Short => SLICE_TOO_SHORT,
-            Refusal::Version => OTHER_VERSION,
-            Refusal::Field => BROKEN_FIELD,
-        },
+        Ok(_) => DONE,
+        Err(Refusal::Short) => SLICE_TOO_SHORT,
+        Err(Refusal::Version) => OTHER_VERSION,
+        Err(Refusal::Field) => BROKEN_FIELD,
     }
 }
 
 // How long the message of the fields is: without persistence it ends where its head does.
+#[tactic(auto, unfolding(crate::specs::Fields::length_of, crate::specs::Fields::address_count))]
 pub fn length_of(fields: Fields) -> usize
     ensures { result ≡ length_of fields }
 {
     if fields.persist == 0 {
-        return HEAD_LENGTH;
+        HEAD_LENGTH
+    } else {
+        FULL_LENGTH
     }
-    FULL_LENGTH
 }
 
 // Where the part behind the message starts: at the front where the message is refused.
-pub fn follows_at(message: Read) -> usize
+#[tactic(auto, unfolding(crate::specs::Fields::follows_at))]
+pub fn follows_at(message: Result<Fields, Refusal>) -> usize
     ensures { result ≡ follows_at (read_said message) }
 {
-    let answer = message.answer;
-    match answer {
-        Answer::Done => {
-            let fields = message.fields;
-            length_of(fields)
-        }
-        Answer::Refused(_) => 0,
+    match message {
+        Ok(fields) => length_of(fields),
+        Err(_) => 0,
     }
 }
 
 // The fields of a refused message: all 0.
+#[tactic(auto, unfolding(crate::specs::Fields::no_fields))]
 pub fn no_fields() -> Fields
     ensures { result ≡ no_fields }
 {
@@ -125,15 +111,5 @@ pub fn no_fields() -> Fields
         eoa: 0,
         small: [0; TYPES],
         large: [0; TYPES],
-    }
-}
-
-// A refused message.
-pub fn refused(why: Refusal) -> Read
-    ensures { read_said result ≡ refused_read (refusal_number why) }
-{
-    Read {
-        answer: Answer::Refused(why),
-        fields: no_fields(),
     }
 }

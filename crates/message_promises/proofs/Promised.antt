@@ -3,13 +3,14 @@
 -- Each exactness goes by the number: a row fixes the test that the definition makes, and each outcome of the tests gives its row. Uniqueness
 -- follows from exactness, since the definitions give one number, and a number belongs to one answer.
 use Prim.Native.Nat.{ℕ, ◌+◌, ◌≤◌, ◌<◌}
-use mathlib.Core.Bool.{Bool, true, false, cond}
+use mathlib.Core.Bool.{Bool, true, false}
 use mathlib.Core.List.{List, ◌++◌}
 use mathlib.Core.Path.{◌≡◌, refl, sym, ap, ◌∙◌}
 use native.Mathlib.Omega.{arith}
-use lib.Dec.{eqb, lit<}
+use lib.Dec.{lit<}
 use lib.ListN.{length, take, drop, take-append-drop, length-append}
 use lib.Seq.{take_at, drop_at}
+use Rattle.std.proofs.Common.{Result, Ok, Err}
 use Rattle.little.proofs.LittleLaws.{below_replicate}
 use Rattle.little.specs.Little.{value_at, Bytes}
 use Rattle.message.proofs.AnswerLaws.{read_short, read_version, read_field, read_cut, read_done, read_cases}
@@ -22,33 +23,42 @@ use Rattle.message_promises.specs.Promises.{RestRow, whole, behind, WriteRow}
 use Rattle.message_promises.specs.Promises.{Lengths, ReadExact, RestExact, WriteExact, Message, Acceptance, RoundTrip, OneMeaning}
 use Rattle.message_bytes.proofs.PartLaws.{length_message, length_by_head, head_without, head_with_addresses}
 use Rattle.message_bytes.specs.Parts.{head_with, head_fields, fields_of, message_of}
-use Rattle.message_fields.proofs.FieldLaws.{length_by_count, length_without, length_with}
-use Rattle.message_fields.specs.Fields.{number_of, version, length_of, Held, no_fields, ReadOutcome, read_said, refused_read}
+use Rattle.message_fields.proofs.FieldLaws.{refused_number, length_by_count, length_without, length_with}
+use Rattle.message_fields.specs.Fields.{number_of, refusal_number, version, length_of, Held, no_fields, ReadOutcome, read_said, refused_read}
 use Rattle.message_fields.specs.Layout.{version_at, strategy_at, persist_at, threshold_at, head_length, types, address_width}
 use Rattle.message_fields.specs.Legal.{legalb}
-use Rattle.message_fields.specs.declared.Answer.TheVariants.{Done, Refused}
-use Rattle.message_fields.specs.declared.Answer.{Answer}
 use Rattle.message_fields.specs.declared.Fields.{Fields}
-use Rattle.message_fields.specs.declared.Read.{Read}
+use Rattle.message_fields.specs.declared.Refusal.{Refusal}
 use Rattle.message_fields.specs.declared.Refusal.TheVariants.{Short, Version, Field}
 use Rattle.pages.proofs.Numbers.{split, not_both}
 use Rattle.refusals.specs.AnswerNumbers.{slice_too_short, other_version, broken_field}
 
 -- ---- answers by their numbers
 
-answer_of : ℕ → Answer
-answer_of n = cond (eqb n 0) Done (cond (eqb n slice_too_short) (Refused Short) (cond (eqb n other_version) (Refused Version) (Refused Field)))
+-- a number belongs to one refusal
+numbered : (v w : Refusal) → refusal_number v ≡ refusal_number w → v ≡ w
+numbered Short Short e = refl
+numbered Version Version e = refl
+numbered Field Field e = refl
+numbered Short Version e = absurd (omega (arith, e))
+numbered Short Field e = absurd (omega (arith, e))
+numbered Version Short e = absurd (omega (arith, e))
+numbered Version Field e = absurd (omega (arith, e))
+numbered Field Short e = absurd (omega (arith, e))
+numbered Field Version e = absurd (omega (arith, e))
 
-answer_number : (a : Answer) → answer_of (number_of a) ≡ a
-unfolding answer_of
-answer_number Done = refl
-answer_number (Refused Short) = refl
-answer_number (Refused Version) = refl
-answer_number (Refused Field) = refl
+-- and to one answer of a write; what a read said, to one answer of a read
+answered : (a z : Result Unit Refusal) → number_of a ≡ number_of z → a ≡ z
+answered (Ok x) (Ok y) e = refl
+answered (Ok x) (Err w) e = absurd (omega (arith, e, refused_number w))
+answered (Err v) (Ok y) e = absurd (omega (arith, e, refused_number v))
+answered (Err v) (Err w) e = ap Err (numbered v w e)
 
--- a number belongs to one answer
-numbered : (a z : Answer) → number_of a ≡ number_of z → a ≡ z
-numbered a z e = sym (answer_number a) ∙ ap answer_of e ∙ answer_number z
+said : (r s : Result Fields Refusal) → read_said r ≡ read_said s → r ≡ s
+said (Ok f) (Ok g) e = ap (λ (o : ReadOutcome). Ok o.fields) e
+said (Ok f) (Err w) e = let n = ap (λ (o : ReadOutcome). o.refusal) e in absurd (omega (arith, n, refused_number w))
+said (Err v) (Ok g) e = let n = ap (λ (o : ReadOutcome). o.refusal) e in absurd (omega (arith, n, refused_number v))
+said (Err v) (Err w) e = ap Err (numbered v w (ap (λ (o : ReadOutcome). o.refusal) e))
 
 -- ---- how long a message is
 
@@ -242,20 +252,19 @@ round_trip = record { write_read = trip_done; write_rest = trip_rest; read_write
 
 -- ---- uniqueness
 
-module _ (b : List ℕ) (r s : Read) (x : ReadRow b (number_of r.answer) r.fields) (y : ReadRow b (number_of s.answer) s.fields) where
+module _ (b : List ℕ) (r s : Result Fields Refusal) (x : ReadRow b (read_said r).refusal (read_said r).fields)
+    (y : ReadRow b (read_said s).refusal (read_said s).fields) where
   one_outcome : read_said r ≡ read_said s
   one_outcome = row_reading b (read_said r) x ∙ sym (row_reading b (read_said s) y)
 
   one_read : r ≡ s
-  one_read =
-      let n = numbered r.answer s.answer (ap (λ (o : ReadOutcome). o.refusal) one_outcome) in
-      λ i. record { answer = n i; fields = (one_outcome i).fields }
+  one_read = said r s one_outcome
 
-one_write : (f : Fields) (b : List ℕ) (a z : Answer) (c d : List ℕ) → Held f → Bytes b → Bytes c → Bytes d
+one_write : (f : Fields) (b : List ℕ) (a z : Result Unit Refusal) (c d : List ℕ) → Held f → Bytes b → Bytes c → Bytes d
     → WriteRow f b (number_of a) c → WriteRow f b (number_of z) d → (a ≡ z) × (c ≡ d)
 one_write f b a z c d h j k l x y =
     let e : write_said a c ≡ write_said z d = row_written f b (write_said a c) k x ∙ sym (row_written f b (write_said z d) l y) in
-    (numbered a z (ap (λ (o : WriteOutcome). o.refusal) e), ap (λ (o : WriteOutcome). o.bytes) e)
+    (answered a z (ap (λ (o : WriteOutcome). o.refusal) e), ap (λ (o : WriteOutcome). o.bytes) e)
 
 pub one_meaning : OneMeaning
 one_meaning =

@@ -29,13 +29,11 @@ use Rattle.pages.proofs.PageLaws.{page_size_true, true_page_size}
 use Rattle.pages.specs.Pages.{page_sizeb}
 
 pub undefined_true : (vs : List ℕ) → undefinedb vs ≡ true → Undefined vs
-unfolding undefinedb
 undefined_true [] e i h = absurd (omega arith)
 undefined_true (v ∷ vs) e zero h = eqb-true v undefined (and_left (eqb v undefined) (undefinedb vs) e)
 undefined_true (v ∷ vs) e (suc i) h = undefined_true vs (and_right (eqb v undefined) (undefinedb vs) e) i (omega arith)
 
 pub true_undefined : (vs : List ℕ) → Undefined vs → undefinedb vs ≡ true
-unfolding undefinedb
 true_undefined [] u = refl
 true_undefined (v ∷ vs) u =
     both (eqb v undefined) (undefinedb vs) (eq-eqb v undefined (u 0 (omega arith))) (true_undefined vs (λ i h. u (suc i) (omega arith)))

@@ -20,13 +20,12 @@
 --   Message b, Acceptance  b starts with a message: it says legal fields; exactly such bytes are accepted
 --   RoundTrip             what is written reads back to equal fields, and what is read writes back to equal bytes
 --   OneMeaning            any two results that the rows allow are equal; bytes say one thing, and fields are said in one way
-use Rattle.std.specs.Prelude.{◌≡◌, ◌↔◌, List, ◌++◌, ℕ, ◌+◌, ◌*◌, ◌≤◌, ◌<◌, length, take, drop, get_or}
+use Rattle.std.specs.Prelude.{◌≡◌, Result, ◌↔◌, List, ◌++◌, ℕ, ◌+◌, ◌*◌, ◌≤◌, ◌<◌, length, take, drop, get_or}
 use Rattle.pages.specs.Pages.{PageSize}
 use Rattle.little.specs.Little.{value_at, Bytes}
 use Rattle.message_fields.specs.declared.Fields.{Fields}
-use Rattle.message_fields.specs.declared.Read.{Read}
-use Rattle.message_fields.specs.declared.Answer.{Answer}
-use Rattle.message_fields.specs.Fields.{number_of, version, length_of, Held, no_fields, ReadOutcome}
+use Rattle.message_fields.specs.declared.Refusal.{Refusal}
+use Rattle.message_fields.specs.Fields.{number_of, version, length_of, Held, no_fields, ReadOutcome, read_said}
 use Rattle.message_fields.specs.Layout.{version_at, strategy_at, persist_at, threshold_at, page_at, page_end_at, eoa_at, head_length, small_at, large_at}
 use Rattle.message_fields.specs.Layout.{full_length, types, address_width}
 use Rattle.message_fields.specs.Legal.{last_strategy, last_persist, undefined}
@@ -126,9 +125,10 @@ pub record RoundTrip : Type 0 where
   pub read_held : (b : List ℕ) → Bytes b → Held (reading b).fields
 
 pub record OneMeaning : Type 0 where
-  pub read : (b : List ℕ) (r s : Read) → ReadRow b (number_of r.answer) r.fields → ReadRow b (number_of s.answer) s.fields → r ≡ s
+  pub read : (b : List ℕ) (r s : Result Fields Refusal) → ReadRow b (read_said r).refusal (read_said r).fields
+      → ReadRow b (read_said s).refusal (read_said s).fields → r ≡ s
   pub rest : (b c d : List ℕ) → RestRow b c → RestRow b d → c ≡ d
-  pub write : (f : Fields) (b : List ℕ) (a z : Answer) (c d : List ℕ) → Held f → Bytes b → Bytes c → Bytes d
+  pub write : (f : Fields) (b : List ℕ) (a z : Result Unit Refusal) (c d : List ℕ) → Held f → Bytes b → Bytes c → Bytes d
       → WriteRow f b (number_of a) c → WriteRow f b (number_of z) d → (a ≡ z) × (c ≡ d)
   pub fields : (f g : Fields) (b : List ℕ) → Says f b → Says g b → f ≡ g
   pub bytes : (f : Fields) (b c : List ℕ) → Bytes b → Bytes c → Says f b → Says f c → take (length_of f) b ≡ take (length_of f) c

@@ -5,9 +5,8 @@ use crate::tell;
 use crate::tell::{agree, item};
 use figures::text::lay;
 use message::Fields;
-use script::words::is_text;
+pub use message_fields::no_fields;
 use show::text::say;
-use show::words::same_words;
 use std::io::Stdout;
 
 // How long a message is without persistence, and with its addresses.
@@ -44,10 +43,7 @@ pub fn block_with(bytes: &[u8], at: usize) -> [u8; BLOCK]
 pub fn head(bytes: &[u8], n: usize) -> &[u8]
     ensures { length result.now ≤ n }
 {
-    if n <= bytes.len() {
-        return &bytes[0..n];
-    }
-    bytes
+    &bytes[..n.min(bytes.len())]
 }
 
 // The bytes from a place on.
@@ -68,18 +64,14 @@ pub fn with_byte(block: &[u8; BLOCK], at: usize, byte: u8) -> [u8; BLOCK]
 
 // The fields of a good message.
 pub fn fields_in(good: &[u8; BLOCK]) -> Fields {
-    let found = message::read(head(good, FULL));
-    found.fields
+    message::read(head(good, FULL)).unwrap_or(no_fields())
 }
 
 // How long the message of the fields is to be.
 pub fn length_due(fields: Fields) -> usize
     ensures { (0 < result) × (result ≤ 125) }
 {
-    if fields.persist == 0 {
-        return HEAD;
-    }
-    FULL
+    if fields.persist == 0 { HEAD } else { FULL }
 }
 
 fn six(n: [u64; NUMBERS], from: usize) -> [u64; 6]
@@ -108,43 +100,41 @@ pub fn fields_of(n: [u64; NUMBERS]) -> Fields {
     }
 }
 
-// The fields of a refused message.
-pub fn no_fields() -> Fields {
-    fields_of([0; NUMBERS])
-}
-
-fn same_six(a: [u64; 6], b: [u64; 6]) -> bool {
-    same_words(&a, &b)
-}
-
 fn same_heads(stdout: Stdout, a: Fields, b: Fields) -> bool {
-    agree(stdout, tell::STRATEGY, a.strategy as u64, b.strategy as u64)
-        && agree(stdout, tell::PERSIST, a.persist as u64, b.persist as u64)
-        && agree(stdout, tell::THRESHOLD, a.threshold, b.threshold)
+    agree(
+        stdout,
+        tell::STRATEGY,
+        u64::from(a.strategy),
+        u64::from(b.strategy),
+    ) && agree(
+        stdout,
+        tell::PERSIST,
+        u64::from(a.persist),
+        u64::from(b.persist),
+    ) && agree(stdout, tell::THRESHOLD, a.threshold, b.threshold)
         && agree(stdout, tell::PAGE, a.page, b.page)
-        && agree(stdout, tell::PAGE_END, a.page_end as u64, b.page_end as u64)
+        && agree(
+            stdout,
+            tell::PAGE_END,
+            u64::from(a.page_end),
+            u64::from(b.page_end),
+        )
         && agree(stdout, tell::EOA, a.eoa, b.eoa)
 }
 
 fn same_fields(stdout: Stdout, a: Fields, b: Fields) -> bool {
-    let a_small = a.small;
-    let b_small = b.small;
-    let a_large = a.large;
-    let b_large = b.large;
-    if same_heads(stdout, a, b) && same_six(a_small, b_small) && same_six(a_large, b_large) {
+    if same_heads(stdout, a, b) && a == b {
         return true;
     }
     say(stdout, b"found other fields\n");
     false
 }
 
-// Whether read answers this number and these fields for the bytes.
+// Whether read answers this number and these fields for the bytes; those of a refused message are all 0.
 fn answers(stdout: Stdout, bytes: &[u8], number: u64, fields: Fields) -> bool {
     let found = message::read(bytes);
-    let answer = found.answer;
-    let found_fields = found.fields;
-    agree(stdout, tell::READ, number, message::number_of(answer))
-        && same_fields(stdout, fields, found_fields)
+    agree(stdout, tell::READ, number, message::number_of(found))
+        && same_fields(stdout, fields, found.unwrap_or(no_fields()))
 }
 
 // Whether the bytes are read so: the answer's number, the fields, and how many bytes follow.
@@ -156,7 +146,7 @@ pub fn reads(stdout: Stdout, bytes: &[u8], number: u64, fields: Fields, follows:
 
 // Whether a block has the bytes of another.
 pub fn same_block(stdout: Stdout, expected: &[u8; BLOCK], found: &[u8; BLOCK]) -> bool {
-    if is_text(found, expected) {
+    if found == expected {
         return true;
     }
     say(stdout, b"found other bytes in the block\n");

@@ -3,88 +3,87 @@ ghost use Rattle.std.specs.Prelude.{◌<◌};
 
 use crate::cases::{BLOCK, FULL, head, with_byte};
 use crate::tell;
-use crate::tell::{agree, end, finish, item, label, labelled};
+use crate::tell::{agree, end, finish, item, labelled};
 use show::claim::{Tally, say_verdict};
+use show::text::say;
 use std::io::Stdout;
+
+// A byte of the message, which a label names: its values from `first` to `last` are legal, and every other is refused with this number.
+#[derive(Clone, Copy)]
+struct Byte {
+    at: usize,
+    name: &'static [u8],
+    first: u8,
+    last: u8,
+    refusal: u64,
+    ghost inside: { at < 200 },
+}
 
 // What read answers for the good message with another byte at a place.
 fn answer_with(good: &[u8; BLOCK], at: usize, byte: u8) -> u64
     requires { at < 200 }
 {
     let bytes = with_byte(good, at, byte);
-    let found = message::read(head(&bytes, FULL));
-    let answer = found.answer;
-    message::number_of(answer)
+    message::number_of(message::read(head(&bytes, FULL)))
 }
 
-// What it is to answer: the values from `first` to `last` are legal.
-fn due(value: u8, first: u8, last: u8, refusal: u64) -> u64 {
-    if first <= value && value <= last {
-        return 0;
-    }
-    refusal
-}
-
-// Whether a value of the byte at a place is answered so. One that is not is printed.
-fn is_due(
-    stdout: Stdout,
-    good: &[u8; BLOCK],
-    at: usize,
-    value: u8,
-    first: u8,
-    last: u8,
-    refusal: u64,
-) -> bool
-    requires { at < 200 }
-{
-    let found = answer_with(good, at, value);
-    if agree(stdout, tell::READ, due(value, first, last, refusal), found) {
-        return true;
-    }
-    labelled(stdout, tell::VALUE, value as u64);
-    end(stdout);
-    false
-}
-
-// Whether every value is.
-fn are_due(stdout: Stdout, good: &[u8; BLOCK], at: usize, first: u8, last: u8, refusal: u64) -> bool
-    requires { at < 200 }
-{
-    let mut value: u64 = 0;
-    while value < 256 {
-        if !is_due(stdout, good, at, (value % 256) as u8, first, last, refusal) {
-            return false;
+impl Byte {
+    // What read is to answer for a value.
+    fn due(self, value: u8) -> u64 {
+        if (self.first..=self.last).contains(&value) {
+            0
+        } else {
+            self.refusal
         }
-        value += 1;
     }
-    true
-}
 
-// That the byte at a place, which a label names, is legal from `first` to `last`, and refused with this number else.
-fn damage(
-    stdout: Stdout,
-    t: Tally,
-    good: &[u8; BLOCK],
-    at: usize,
-    name: u64,
-    first: u8,
-    last: u8,
-    refusal: u64,
-) -> Tally
-    requires { at < 200 }
-{
-    let held = are_due(stdout, good, at, first, last, refusal);
-    say_verdict(stdout, held);
-    label(stdout, name);
-    item(stdout, tell::FROM, first as u64);
-    item(stdout, tell::TO, last as u64);
-    item(stdout, tell::OTHERS, refusal);
-    finish(stdout, t, held)
+    // Whether a value is answered so. One that is not is printed.
+    fn is_due(self, stdout: Stdout, good: &[u8; BLOCK], value: u8) -> bool {
+        let found = answer_with(good, self.at, value);
+        if agree(stdout, tell::READ, self.due(value), found) {
+            return true;
+        }
+        labelled(stdout, tell::VALUE, u64::from(value));
+        end(stdout);
+        false
+    }
+
+    // That every value is.
+    fn damage(self, stdout: Stdout, t: Tally, good: &[u8; BLOCK]) -> Tally {
+        let held = (0..=u8::MAX).all(|value| self.is_due(stdout, good, value));
+        say_verdict(stdout, held);
+        say(stdout, self.name);
+        item(stdout, tell::FROM, u64::from(self.first));
+        item(stdout, tell::TO, u64::from(self.last));
+        item(stdout, tell::OTHERS, self.refusal);
+        finish(stdout, t, held)
+    }
 }
 
 // The good message has persist 1 and every address all ones.
 pub fn damages(stdout: Stdout, t: Tally, good: &[u8; BLOCK]) -> Tally {
-    let t = damage(stdout, t, good, 0, tell::BYTE_0, 1, 1, 11);
-    let t = damage(stdout, t, good, 1, tell::BYTE_1, 0, 3, 12);
-    damage(stdout, t, good, 2, tell::BYTE_2, 0, 1, 12)
+    let bytes = [
+        Byte {
+            at: 0,
+            name: tell::BYTE_0,
+            first: 1,
+            last: 1,
+            refusal: 11,
+        },
+        Byte {
+            at: 1,
+            name: tell::BYTE_1,
+            first: 0,
+            last: 3,
+            refusal: 12,
+        },
+        Byte {
+            at: 2,
+            name: tell::BYTE_2,
+            first: 0,
+            last: 1,
+            refusal: 12,
+        },
+    ];
+    bytes.iter().fold(t, |t, byte| byte.damage(stdout, t, good))
 }

@@ -42,14 +42,7 @@ fn are_short(stdout: Stdout, block: &[u8; BLOCK], length: usize, fields: Fields)
 {
     let none = no_fields();
     let blank = untouched();
-    let mut n = 0;
-    while n < length {
-        if !is_due(stdout, block, n, 10, none, n, fields, &blank) {
-            return false;
-        }
-        n += 1;
-    }
-    true
+    (0..length).all(|n| is_due(stdout, block, n, 10, none, n, fields, &blank))
 }
 
 // Whether every length from that of the message on is enough.
@@ -57,14 +50,7 @@ fn are_enough(stdout: Stdout, block: &[u8; BLOCK], length: usize, fields: Fields
     requires { length ≤ 125 }
 {
     let written = block_with(head(block, length), 0);
-    let mut n = length;
-    while n <= MOST {
-        if !is_due(stdout, block, n, 0, fields, n - length, fields, &written) {
-            return false;
-        }
-        n += 1;
-    }
-    true
+    (length..=MOST).all(|n| is_due(stdout, block, n, 0, fields, n - length, fields, &written))
 }
 
 // What a claim says: which message, the byte behind its head, the lengths, the answer and where what follows starts.
@@ -78,8 +64,8 @@ fn say_lengths(
     number: u64,
     start: usize,
 ) {
-    begin(stdout, held, tell::PERSIST, persist as u64);
-    item(stdout, tell::BEHIND, behind as u64);
+    begin(stdout, held, tell::PERSIST, u64::from(persist));
+    item(stdout, tell::BEHIND, u64::from(behind));
     item(stdout, tell::LENGTHS, first as u64);
     item(stdout, tell::TO, last as u64);
     item(stdout, tell::READ, number);

@@ -22,11 +22,7 @@ pub fn next_line(text: &[u8], at: usize) -> usize
     requires { at ≤ length text.now }
     ensures { (result ≤ length text.now) × (at < length text.now → at < result) }
 {
-    let end = line_end(text, at);
-    if end < text.len() {
-        return end + 1;
-    }
-    end
+    text.len().min(line_end(text, at) + 1)
 }
 
 // The line at a place, without its line end.

@@ -54,6 +54,7 @@ fn run(stdout: Stdout, file: &[u8]) {
     let mut t = Tally::none();
     let mut at = 0;
     let mut last = 0;
+    // A `while`, since each turn goes on by a line: a vector has two more lines behind its name, and is asked for by its place.
     while at < file.len() {
         if is_name(file, at) {
             t = vectors::vector(stdout, t, file, at);
@@ -71,6 +72,7 @@ fn read_full(mut file: File, space: &mut [u8]) -> usize
     ensures { result ≤ length space.new }
 {
     let mut done = 0;
+    // A `while`, since a read fills as much as it likes of the part that is left.
     while done < space.len() {
         match file.read(&mut space[done..]) {
             Ok(0) | Err(_) => {

@@ -28,7 +28,7 @@ fn read_from(
     requires { at ≤ 200 }
 {
     let held = reads(stdout, tail(block, at), number, fields, follows);
-    begin(stdout, held, tell::PERSIST, persist as u64);
+    begin(stdout, held, tell::PERSIST, u64::from(persist));
     item(stdout, tell::PART, at as u64);
     say_read(stdout, number, follows);
     finish(stdout, t, held)
@@ -40,7 +40,7 @@ fn write_into(stdout: Stdout, t: Tally, expected: &[u8; BLOCK], fields: Fields) 
     let answer = message::write(fields, &mut block[START..]);
     let held = agree(stdout, tell::WRITE, 0, message::number_of(answer))
         && same_block(stdout, expected, &block);
-    begin(stdout, held, tell::PERSIST, fields.persist as u64);
+    begin(stdout, held, tell::PERSIST, u64::from(fields.persist));
     item(stdout, tell::INTO, START as u64);
     item(stdout, tell::WRITE, 0);
     finish(stdout, t, held)

@@ -9,7 +9,7 @@ use crate::lines::{line, next_line};
 use crate::tell;
 use crate::tell::{finish, item};
 use figures::bytes::{is_hex, unhex};
-use figures::numbers::{Number, number_of};
+use figures::numbers::number_of;
 use message::Fields;
 use script::words::{count_words, next_word};
 use show::claim::{Tally, say_verdict};
@@ -18,19 +18,13 @@ use std::io::Stdout;
 
 // The bytes that a line says, laid to the front of a block, and how many they are: none where it says too many, or no bytes.
 pub fn bytes_said(text: &[u8], out: &mut [u8; BLOCK]) -> usize {
-    let word = next_word(text, 0);
-    let from = word.from;
-    let to = word.to;
-    let hex = &text[from..to];
+    let (hex, _) = next_word(text);
     let n = hex.len() / 2;
-    if BLOCK < n {
+    if BLOCK < n || !is_hex(hex) {
         return 0;
     }
-    if is_hex(hex) {
-        unhex(hex, out);
-        return n;
-    }
-    0
+    unhex(hex, out);
+    n
 }
 
 // What an address is to be that is not there: all ones.
@@ -38,24 +32,17 @@ const ABSENT: u64 = 18446744073709551615;
 
 // The number that a word says. Where a line has '-' and then no words, it has no addresses.
 fn value(word: &[u8]) -> u64 {
-    let Number::Is(n) = number_of(word) else {
-        return ABSENT;
-    };
-    n
+    number_of(word).unwrap_or(ABSENT)
 }
 
 // The numbers of a line.
 fn numbers(text: &[u8]) -> [u64; NUMBERS] {
     let mut found = [0u64; NUMBERS];
-    let mut at = 0;
-    let mut i = 0;
-    while i < NUMBERS {
-        let word = next_word(text, at);
-        let from = word.from;
-        let to = word.to;
-        found[i] = value(&text[from..to]);
-        at = to;
-        i += 1;
+    let mut rest = text;
+    for number in &mut found {
+        let (word, behind) = next_word(rest);
+        *number = value(word);
+        rest = behind;
     }
     found
 }
@@ -64,18 +51,16 @@ fn numbers(text: &[u8]) -> [u64; NUMBERS] {
 fn length_said(text: &[u8]) -> usize
     ensures { result ≤ 125 }
 {
-    if count_words(text, 0) == NUMBERS {
-        return FULL;
+    if count_words(text) == NUMBERS {
+        FULL
+    } else {
+        HEAD
     }
-    HEAD
 }
 
 // How many of n bytes stand behind a message of this length.
 fn behind(n: usize, length: usize) -> usize {
-    if length <= n {
-        return n - length;
-    }
-    0
+    n.saturating_sub(length)
 }
 
 // Whether a message of this length, in front of n bytes, is read and written back.

@@ -1,3 +1,2 @@
 -- The laws that the proofs of this and of the higher crates cite.
-pub mod SliceLaws
 pub mod MoveLaws

@@ -1,39 +1,22 @@
--- Laws of the loops that move and clear words. What such a loop must do is `paste` of lib.Seq: some words in place of others.
+-- Laws of the loops that move words. What such a loop must do is `paste` of lib.Seq: some words in place of others.
 --
--- In this order: words loaded and then stored (stored) are a move; two pastes side by side; a move after a move, downwards and upwards; the words
--- while a copy upwards has k words to go (rising), and a turn of it; a turn of the loop that clears, and all words cleared; all words from a place
--- up to the last that is in use moved up, moved down (moved).
+-- In this order: a part of a front; two pastes side by side; a move after a move, downwards and upwards; the words while a copy upwards has k words to go
+-- (rising), and a turn of it; all words from a place up to the last that is in use moved up, moved down (moved).
 --
 -- Assumes nothing.
 use mathlib.Core.Path.{◌≡◌, refl, sym, ap, ◌∙◌}
-use mathlib.Core.List.{List, [], ◌++◌, append_assoc, append-nil}
-use Prim.Native.Nat.{ℕ, zero, suc, ◌+◌, ◌-◌, ◌≤◌, ◌<◌}
+use mathlib.Core.List.{List, ◌++◌, append_assoc}
+use Prim.Native.Nat.{ℕ, ◌+◌, ◌-◌, ◌≤◌}
 use native.Mathlib.Omega.{arith}
-use native.Mathlib.Nat.{add-zero, add_assoc, sub-zero, le_refl}
-use native.Mathlib.Numerals.{add-one}
-use lib.ListN.{length, take, drop, get_or, set, replicate, length-take, length-drop, length-replicate, get_or-replicate}
-use lib.ListN.{replicate-append-replicate, drop_of_length-le}
-use lib.Seq.{paste, paste-zero, paste-suc, take-paste, drop-paste, get_or-drop, take_all, take-take, take-add, take-append-le, drop-drop, drop_at}
+use native.Mathlib.Nat.{add_assoc, le_refl}
+use lib.ListN.{length, take, drop, replicate, length-take, length-drop, length-replicate}
+use lib.ListN.{replicate-append-replicate}
+use lib.Seq.{paste, take-paste, drop-paste, take_all, take-take, take-add, take-append-le, drop-drop, drop_at}
 use lib.Seq.{length-take-le, length-paste}
-use Rattle.moves.proofs.SliceLaws.{drop_replicate, part_front}
+use Rattle.std.proofs.lemmas.List.{drop-replicate, drop-take}
 
--- ---- words loaded, then stored
-
--- the words w with m of them, from `from` on, stored from `to` on one by one, as straight-line code leaves them
-abbrev pub stored : List ℕ → ℕ → ℕ → ℕ → List ℕ
-stored w to from zero = w
-stored w to from (suc zero) = set w to (get_or w from 0)
-stored w to from (suc (suc k)) = set (stored w to from (suc k)) (to + suc k) (get_or w (from + suc k) 0)
-
-pub stored_pasted : (w : List ℕ) (to from m : ℕ) → to + m ≤ length w → from + m ≤ length w → stored w to from m ≡ paste w to (drop from w) m
-stored_pasted w to from zero high end = paste-zero w to (drop from w)
-stored_pasted w to from (suc zero) high end =
-    let first : set (paste w to (drop from w) 0) (to + 0) (get_or (drop from w) 0 0) ≡ paste w to (drop from w) 1 =
-    paste-suc w to (drop from w) 0 0 (omega arith) (rw length-drop (omega arith)) in
-    simp add-zero at (rw (← paste-zero w to (drop from w), get_or-drop) at first)
-stored_pasted w to from (suc (suc k)) high end =
-    ap (λ (t : List ℕ). set t (to + suc k) (get_or w (from + suc k) 0)) (stored_pasted w to from (suc k) (omega arith) (omega arith))
-    ∙ rw (← get_or-drop from w (suc k) 0) (paste-suc w to (drop from w) (suc k) 0 (omega arith) (rw length-drop (omega arith)))
+part_front : (w : List ℕ) (j m n : ℕ) → n ≡ j + m → take m (drop j w) ≡ drop j (take n w)
+part_front w j m n e = rw (e, drop-take)
 
 -- ---- a paste beside a paste
 
@@ -88,9 +71,9 @@ module _ (d : List ℕ) (to from k m n : ℕ) (both : k + m ≡ n) (t u : List �
       let so : t ≡ paste d (to + k) (drop k s) m = rw drop-drop is in
       let long : length t ≡ length d = rw so (length-paste d (to + k) (drop k s) m (omega arith) behind) in
       let same : take k (drop from t) ≡ take k s =
-      part_front t from k (from + k) refl (omega arith)
+      part_front t from k (from + k) refl
       ∙ ap (drop from) (rw so (paste_take d (to + k) (drop k s) m (omega arith) behind (from + k) (omega arith)))
-      ∙ sym (part_front d from k (from + k) refl (omega arith)) in
+      ∙ sym (part_front d from k (from + k) refl) in
       next ∙ rw (same, so, ← both) (paste_before d to s k m (omega arith) enough)
 
 -- ---- the loops
@@ -99,33 +82,10 @@ module _ (d : List ℕ) (to from len : ℕ) where
   abbrev pub rising : ℕ → List ℕ
   rising k = paste d (to + k) (drop (from + k) d) (len - k)
 
-  pub rising_none : rising 0 ≡ paste d to (drop from d) len
-  rising_none = simp (add-zero, sub-zero)
-
-  pub rising_all : d ≡ rising len
-  rising_all = let e : len - len ≡ 0 = omega arith in rw e (paste-zero d (to + len) (drop (from + len) d))
-
   pub rising_next : (k m : ℕ) (t u : List ℕ) → from ≤ to → to + len ≤ length d → k + m ≤ len → t ≡ rising (k + m)
       → u ≡ paste t (to + k) (drop (from + k) t) m → u ≡ rising k
   rising_next k m t u le fits lt is next =
       up_more d (to + k) (from + k) m (len - (k + m)) (len - k) (omega arith) t u (omega arith) (omega arith) (is ∙ simp add_assoc) next
-
-pub clear_next : (d : List ℕ) (from len k : ℕ) (t : List ℕ) → from + len ≤ length d → k < len → t ≡ paste d from (replicate len 0) k
-    → set t (from + k) 0 ≡ paste d from (replicate len 0) (k + 1)
-clear_next d from len k t fits lt is =
-    ap (λ (l : List ℕ). set l (from + k) 0) is
-    ∙ ap (λ (x : ℕ). set (paste d from (replicate len 0) k) (from + k) x) (sym (get_or-replicate len k 0 0 lt))
-    ∙ paste-suc d from (replicate len 0) k 0 (omega arith) (rw length-replicate lt)
-    ∙ rw add-one
-
--- ---- all words cleared
-
-pub cleared_all : (w v : List ℕ) → v ≡ paste w 0 (replicate (length w) 0) (length w) → v ≡ replicate (length w) 0
-cleared_all w v is =
-    let z : List ℕ = replicate (length w) 0 in
-    let all = take_all (length w) z (rw length-replicate (le_refl (length w))) in
-    let behind : drop (0 + length w) w ≡ [] = drop_of_length-le w {i = 0 + length w} (omega arith) in
-    is ∙ rw (all, behind) (append-nil z)
 
 -- ---- all words from a place up to the last that is in use, moved
 
@@ -139,14 +99,14 @@ module _ (w : List ℕ) (to from end : ℕ) (low : from ≤ end) (high : end ≤
       let k : ℕ = m - end in
       let e : end + k ≡ m = omega arith in
       let f : length w - end - k ≡ length w - m = omega arith in
-      let d : drop k (drop end w) ≡ replicate (length w - m) 0 = rw (behind, ← f) (drop_replicate k (length w - end)) in
+      let d : drop k (drop end w) ≡ replicate (length w - m) 0 = rw (behind, ← f) (drop-replicate k (length w - end) 0) in
       rw e at (sym (drop-drop k end w) ∙ d)
 
   -- a move up goes over zeros
   pub up_moved : from ≤ to → to + (end - from) ≤ length w → paste w to (drop from w) (end - from) ≡ moved w to from end
   up_moved le room =
       append_assoc (take to w) (take (end - from) (drop from w)) (drop (to + (end - from)) w)
-      ∙ rw (part_front w from (end - from) end (omega arith) high, zeros_behind (to + (end - from)) (omega arith))
+      ∙ rw (part_front w from (end - from) end (omega arith), zeros_behind (to + (end - from)) (omega arith))
 
   -- a move down leaves words behind, which are cleared
   module _ (le : to ≤ from) (x : List ℕ) (is : x ≡ paste w to (drop from w) (end - from)) where
@@ -154,7 +114,7 @@ module _ (w : List ℕ) (to from end : ℕ) (low : from ≤ end) (high : end ≤
     enough = rw length-drop (omega arith)
 
     front : take (to + (end - from)) x ≡ take to w ++ drop from (take end w)
-    front = rw (is, ← part_front w from (end - from) end (omega arith) high) (take-paste w to (drop from w) (end - from) (omega arith) enough)
+    front = rw (is, ← part_front w from (end - from) end (omega arith)) (take-paste w to (drop from w) (end - from) (omega arith) enough)
 
     back : drop (to + (end - from) + (from - to)) x ≡ replicate (length w - end) 0
     back =

@@ -1,4 +1,6 @@
-// Words of a lent table moved or cleared in place. A move reads every word before another is laid over it.
+// Words of a lent table moved or cleared in place. A move goes by blocks: `copy_within` alone moves one word at a time, and with it a call at 100 entries
+// took 0.70 us, 0.71 times plain C, where the goal is 0.65 (docs/BENCH.md); by blocks it takes 0.61, 0.63 times. Down and up differ in the order
+// of the blocks, which keeps what is not yet read: one function of both would hold the two loops all the same.
 #![tactic(auto)]
 
 ghost use Rattle.std.specs.Prelude.{◌≡◌, ◌+◌, ◌*◌, ◌≤◌, length, drop, replicate};
@@ -13,14 +15,9 @@ fn move_block(table: &mut [u64], to: usize, from: usize)
     requires { (to + move_block ≤ length table.old) × (from + move_block ≤ length table.old) }
     ensures { table.new ≡ paste table.old to (drop from table.old) move_block }
 {
-    let a = table[from];
-    let b = table[from + 1];
-    let c = table[from + 2];
-    let d = table[from + 3];
-    table[to] = a;
-    table[to + 1] = b;
-    table[to + 2] = c;
-    table[to + 3] = d;
+    let mut block = [0; BLOCK];
+    block.copy_from_slice(&table[from..from + BLOCK]);
+    table[to..to + BLOCK].copy_from_slice(&block);
 }
 
 // So many blocks from `from` on go down to `to`, the first first.
@@ -28,10 +25,8 @@ fn blocks_down(table: &mut [u64], to: usize, from: usize, blocks: usize)
     requires { (to ≤ from) × (from + blocks * move_block ≤ length table.old) }
     ensures { table.new ≡ paste table.old to (drop from table.old) (blocks * move_block) }
 {
-    let mut k: usize = 0;
-    while k < blocks {
+    for k in 0..blocks {
         move_block(table, to + k * BLOCK, from + k * BLOCK);
-        k = k + 1;
     }
 }
 
@@ -40,34 +35,8 @@ fn blocks_up(table: &mut [u64], to: usize, from: usize, blocks: usize)
     requires { (from ≤ to) × (to + blocks * move_block ≤ length table.old) }
     ensures { table.new ≡ paste table.old to (drop from table.old) (blocks * move_block) }
 {
-    let mut k = blocks;
-    while 0 < k {
-        k = k - 1;
+    for k in (0..blocks).rev() {
         move_block(table, to + k * BLOCK, from + k * BLOCK);
-    }
-}
-
-// len words from `from` on go down to `to`, the first first.
-fn words_down(table: &mut [u64], to: usize, from: usize, len: usize)
-    requires { (to ≤ from) × (from + len ≤ length table.old) }
-    ensures { table.new ≡ paste table.old to (drop from table.old) len }
-{
-    let mut k: usize = 0;
-    while k < len {
-        table[to + k] = table[from + k];
-        k = k + 1;
-    }
-}
-
-// len words from `from` on go up to `to`, the last first.
-fn words_up(table: &mut [u64], to: usize, from: usize, len: usize)
-    requires { (from ≤ to) × (to + len ≤ length table.old) }
-    ensures { table.new ≡ paste table.old to (drop from table.old) len }
-{
-    let mut k = len;
-    while 0 < k {
-        k = k - 1;
-        table[to + k] = table[from + k];
     }
 }
 
@@ -79,7 +48,7 @@ pub fn move_down(table: &mut [u64], to: usize, from: usize, len: usize)
     let blocks = len / BLOCK;
     let moved = blocks * BLOCK;
     blocks_down(table, to, from, blocks);
-    words_down(table, to + moved, from + moved, len - moved);
+    table.copy_within(from + moved..from + len, to + moved);
 }
 
 // len words from `from` on go up to `to`: whole blocks at the end, then the words before them.
@@ -87,10 +56,9 @@ pub fn move_up(table: &mut [u64], to: usize, from: usize, len: usize)
     requires { (from ≤ to) × (to + len ≤ length table.old) }
     ensures { table.new ≡ paste table.old to (drop from table.old) len }
 {
-    let blocks = len / BLOCK;
-    let left = len - blocks * BLOCK;
-    blocks_up(table, to + left, from + left, blocks);
-    words_up(table, to, from, left);
+    let left = len % BLOCK;
+    blocks_up(table, to + left, from + left, len / BLOCK);
+    table.copy_within(from..from + left, to);
 }
 
 // len words from `from` on become 0.
@@ -98,17 +66,12 @@ pub fn clear(table: &mut [u64], from: usize, len: usize)
     requires { from + len ≤ length table.old }
     ensures { table.new ≡ paste table.old from (replicate len 0) len }
 {
-    let mut k: usize = 0;
-    while k < len {
-        table[from + k] = 0;
-        k = k + 1;
-    }
+    table[from..from + len].fill(0);
 }
 
 // Every word becomes 0.
 pub fn clear_all(table: &mut [u64])
     ensures { table.new ≡ replicate (length table.old) 0 }
 {
-    let len = table.len();
-    clear(table, 0, len);
+    table.fill(0);
 }

@@ -13,119 +13,74 @@ use space::Space;
 use space::answers::{Allocated, Opened, Released, Resized};
 use totals::Summary;
 
-// What a call hands back: its answer with the state, and the summary.
+// What a call answers, with the state, and the summary.
 #[derive(Clone, Copy)]
-pub struct OpenedOn {
-    pub opened: Opened,
+pub struct On<A> {
+    pub answered: A,
     pub summary: Summary,
 }
 
-#[derive(Clone, Copy)]
-pub struct AllocatedOn {
-    pub allocated: Allocated,
-    pub summary: Summary,
-}
-
-#[derive(Clone, Copy)]
-pub struct ReleasedOn {
-    pub released: Released,
-    pub summary: Summary,
-}
-
-#[derive(Clone, Copy)]
-pub struct ResizedOn {
-    pub resized: Resized,
-    pub summary: Summary,
-}
-
-#[derive(Clone, Copy)]
-pub struct FreshenedOn {
-    pub freshened: Freshened,
-    pub summary: Summary,
-}
-
-pub fn open(pages: Pages, table: &mut [u64], given: Summary) -> OpenedOn
-    ensures { told (open_said result.opened table.new) result.summary
+pub fn open(pages: Pages, table: &mut [u64], given: Summary) -> On<Opened>
+    ensures { told (open_said result.answered table.new) result.summary
         ≡ opened_with pages.page pages.limit table.old given }
 {
     let mut summary = given;
-    let answer = summary::open(pages, table, &mut summary);
-    OpenedOn {
-        opened: answer,
-        summary,
-    }
+    let answered = summary::open(pages, table, &mut summary);
+    On { answered, summary }
 }
 
 // With the page size and the limit of `Space::open_default`.
-pub fn open_default(table: &mut [u64], given: Summary) -> OpenedOn
-    ensures { told (open_said result.opened table.new) result.summary
+pub fn open_default(table: &mut [u64], given: Summary) -> On<Opened>
+    ensures { told (open_said result.answered table.new) result.summary
         ≡ opened_with default_page default_limit table.old given }
 {
     let mut summary = given;
-    let answer = summary::open_default(table, &mut summary);
-    OpenedOn {
-        opened: answer,
-        summary,
-    }
+    let answered = summary::open_default(table, &mut summary);
+    On { answered, summary }
 }
 
-pub fn allocate(space: Space, table: &mut [u64], given: Summary, request: Request) -> AllocatedOn
-    ensures { told (allocate_said result.allocated table.new) result.summary
+pub fn allocate(space: Space, table: &mut [u64], given: Summary, request: Request) -> On<Allocated>
+    ensures { told (allocate_said result.answered table.new) result.summary
         ≡ allocated_with space request.code request.size table.old given }
 {
     let mut summary = given;
-    let answer = summary::allocate(space, table, &mut summary, request);
-    AllocatedOn {
-        allocated: answer,
-        summary,
-    }
+    let answered = summary::allocate(space, table, &mut summary, request);
+    On { answered, summary }
 }
 
-pub fn release(space: Space, table: &mut [u64], given: Summary, named: Named) -> ReleasedOn
-    ensures { told (release_said result.released table.new) result.summary
+pub fn release(space: Space, table: &mut [u64], given: Summary, named: Named) -> On<Released>
+    ensures { told (release_said result.answered table.new) result.summary
         ≡ released_with space named.address named.size table.old given }
 {
     let mut summary = given;
-    let answer = summary::release(space, table, &mut summary, named);
-    ReleasedOn {
-        released: answer,
-        summary,
-    }
+    let answered = summary::release(space, table, &mut summary, named);
+    On { answered, summary }
 }
 
-pub fn extend(space: Space, table: &mut [u64], given: Summary, change: Change) -> ResizedOn
-    ensures { told (extend_said result.resized table.new) result.summary
+pub fn extend(space: Space, table: &mut [u64], given: Summary, change: Change) -> On<Resized>
+    ensures { told (extend_said result.answered table.new) result.summary
         ≡ extended_with space change.address change.size change.by table.old given }
 {
     let mut summary = given;
-    let answer = summary::extend(space, table, &mut summary, change);
-    ResizedOn {
-        resized: answer,
-        summary,
-    }
+    let answered = summary::extend(space, table, &mut summary, change);
+    On { answered, summary }
 }
 
-pub fn shorten(space: Space, table: &mut [u64], given: Summary, change: Change) -> ResizedOn
-    ensures { told (shorten_said result.resized table.new) result.summary
+pub fn shorten(space: Space, table: &mut [u64], given: Summary, change: Change) -> On<Resized>
+    ensures { told (shorten_said result.answered table.new) result.summary
         ≡ shortened_with space change.address change.size change.by table.old given }
 {
     let mut summary = given;
-    let answer = summary::shorten(space, table, &mut summary, change);
-    ResizedOn {
-        resized: answer,
-        summary,
-    }
+    let answered = summary::shorten(space, table, &mut summary, change);
+    On { answered, summary }
 }
 
 // Works the summary out afresh from a sound table.
-pub fn fresh(space: Space, table: &[u64], given: Summary) -> FreshenedOn
-    ensures { told (fresh_said result.freshened table.now) result.summary
+pub fn fresh(space: Space, table: &[u64], given: Summary) -> On<Freshened>
+    ensures { told (fresh_said result.answered table.now) result.summary
         ≡ freshened space table.now given }
 {
     let mut summary = given;
-    let answer = summary::fresh(space, table, &mut summary);
-    FreshenedOn {
-        freshened: answer,
-        summary,
-    }
+    let answered = summary::fresh(space, table, &mut summary);
+    On { answered, summary }
 }

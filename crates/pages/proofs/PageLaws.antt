@@ -11,7 +11,7 @@ use native.Mathlib.Decide.{ℕ_discrete}
 use native.Mathlib.Nat.{zero-mod, div-mul-le_self, lt-div-mul-add, mul-mod_left, div-add-mod', mul-le-mul_right, mod-lt, mul-add-mod_self_right, le_antisymm}
 use native.Mathlib.Omega.{arith}
 use lib.Dec.{leb}
-use borrow.Author.Tests.{eq-eqb, ne_eqb, eqb-true, le-leb, lt-leb, leb-true}
+use borrow.Author.Tests.{eq-eqb, ne_eqb, eqb-true, le-leb, leb-true}
 use Rattle.pages.proofs.Numbers.{split, and_left, and_right, both}
 use Rattle.pages.specs.Pages.{least_page, largest_page, PageSize, page_sizeb, Border, borderb, down, up, left, up_from}
 use Rattle.pages.specs.Pages.{LastBorder, FirstBorder, BordersAt, Borders}
@@ -40,12 +40,6 @@ page_size_true P h =
 
 pub true_page_size : (P : ℕ) → PageSize P → page_sizeb P ≡ true
 true_page_size P h = both _ _ (le-leb least_page P h.least) (le-leb P largest_page h.largest)
-
-pub page_size_low : (P : ℕ) → P < least_page → page_sizeb P ≡ false
-page_size_low P h = rw (lt-leb least_page P h)
-
-pub page_size_high : (P : ℕ) → least_page ≤ P → page_sizeb P ≡ leb P largest_page
-page_size_high P h = rw (le-leb least_page P h)
 
 pub page_pos : {P : ℕ} → PageSize P → 0 < P
 page_pos h = omega (arith, h.least)

@@ -2,16 +2,18 @@
 --
 --   same_next, same_stop, same_end     a walk over both: numbers that are equal, that are not, and the end
 --   same_lengths                       lists of other lengths are not one
+--   same_pointwise                     `==` on slices is this test: what `a == b` ensures, as sameb
 --   same                               the statement Same
 --
 -- Assumes nothing.
 use Prim.Native.Nat.{ℕ, suc, ◌+◌, ◌<◌, ◌≤◌}
-use mathlib.Core.Bool.{true, false, true≢false}
+use mathlib.Core.Bool.{true, false, ◌&&◌, true≢false}
 use mathlib.Core.List.{List, [], ◌∷◌}
 use mathlib.Core.Path.{◌≡◌, refl, sym, ap}
 use native.Mathlib.Numerals.{add-one}
 use lib.Dec.{eqb}
 use lib.ListN.{length, drop, get_or, drop_of_length-le}
+use lib.Pointwise.{pointwise}
 use lib.Seq.{drop-cons}
 use borrow.Author.Tests.{eq-eqb, ne_eqb, eqb-true}
 use Rattle.pages.proofs.Numbers.{and_left, and_right, and-false}
@@ -38,6 +40,15 @@ same_lengths [] [] h = absurd (h refl)
 same_lengths [] (y ∷ ys) h = refl
 same_lengths (x ∷ xs) [] h = refl
 same_lengths (x ∷ xs) (y ∷ ys) h = and-false (eqb x y) (same_lengths xs ys (λ e. h (ap suc e)))
+
+-- ---- the test by which slices are compared (`==`)
+
+pub same_pointwise : (xs ys : List ℕ) → pointwise eqb xs ys ≡ sameb xs ys
+unfolding sameb
+same_pointwise [] [] = refl
+same_pointwise [] (y ∷ ys) = refl
+same_pointwise (x ∷ xs) [] = refl
+same_pointwise (x ∷ xs) (y ∷ ys) = ap (λ b. eqb x y && b) (same_pointwise xs ys)
 
 -- ---- equal lists
 

@@ -1,8 +1,7 @@
-// Page borders. P is any page size from 512 to 2^30: no power of two is assumed, so a border is found by division and never by a mask. And the larger of
-// two numbers, which has nothing to do with pages.
+// Page borders. P is any page size from 512 to 2^30: no power of two is assumed, so a border is found by division and never by a mask.
 #![tactic(auto)]
 
-ghost use Rattle.std.specs.Prelude.{◌≡◌, ◌+◌, ◌≤◌, ◌<◌, ◌^◌, max};
+ghost use Rattle.std.specs.Prelude.{◌≡◌, ◌+◌, ◌≤◌, ◌<◌, ◌^◌};
 ghost use Rattle.pages.specs.Pages.{down, up, up_from, borderb, page_sizeb};
 
 pub const LEAST_PAGE: u64 = 512;
@@ -13,10 +12,7 @@ pub const LARGEST_PAGE: u64 = 1073741824;
 pub fn is_page_size(p: u64) -> bool
     ensures { result ≡ page_sizeb p }
 {
-    if p < LEAST_PAGE {
-        return false;
-    }
-    p <= LARGEST_PAGE
+    (LEAST_PAGE..=LARGEST_PAGE).contains(&p)
 }
 
 // Whether a is a multiple of p.
@@ -40,7 +36,7 @@ pub fn round_up(p: u64, a: u64) -> u64
     requires { (0 < p) × (a + p ≤ 2 ^ 64) }
     ensures { result ≡ up p a }
 {
-    (a + (p - 1)) / p * p
+    a.next_multiple_of(p)
 }
 
 // The bytes from a to the first multiple of p not below it, 0 to p - 1. Nothing is added to a, so any a may be asked.
@@ -49,15 +45,5 @@ pub fn up_from(p: u64, a: u64) -> u64
     ensures { result ≡ up_from p a }
 {
     let over = a % p;
-    if over == 0 {
-        return 0;
-    }
-    p - over
-}
-
-// The larger of two numbers.
-pub fn larger(a: u64, b: u64) -> u64
-    ensures { result ≡ max a b }
-{
-    if a < b { b } else { a }
+    if over == 0 { 0 } else { p - over }
 }

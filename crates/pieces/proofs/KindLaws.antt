@@ -44,12 +44,17 @@ large_is_not metadata = refl
 large_is_not raw = refl
 
 -- of a small class it needs no kind: what is none reads as large
-pub free_of_small : (k : ℕ) {c : Class} → Small c → (k ≡ kind_of (Free c) → ⊥) → free_of c (status_of k) ≡ false
+free_of_small : (k : ℕ) {c : Class} → Small c → (k ≡ kind_of (Free c) → ⊥) → free_of c (status_of k) ≡ false
 free_of_small k {c} t n = go (kindb k) refl
   where
     go : (b : Bool) → kindb k ≡ b → free_of c (status_of k) ≡ false
     go true e = free_of_other k c e n
     go false e = rw (no_kind_status k e) (large_is_not t)
+
+pub free_of_not_large : (k : ℕ) (c : Class) → (c ≡ Large → ⊥) → (k ≡ kind_of (Free c) → ⊥) → free_of c (status_of k) ≡ false
+free_of_not_large k SmallMetadata other n = free_of_small k metadata n
+free_of_not_large k SmallRaw other n = free_of_small k raw n
+free_of_not_large k Large other n = absurd (other refl)
 
 pub free_of_large : (k : ℕ) → (k ≡ kind_of (Free Large) → ⊥) → free_of Large (status_of k) ≡ not (kindb k)
 free_of_large k n = go (kindb k) refl

@@ -3,14 +3,14 @@
 -- In this order: a class is small or large; what classes and statuses cannot be; tests; a kind and its status, both ways; an entry of a list.
 --
 -- Assumes nothing.
-use Prim.Native.Nat.{ℕ, zero, suc, ◌≤◌, ◌<◌}
-use mathlib.Core.Bool.{true, false}
+use Prim.Native.Nat.{ℕ, zero, suc, ◌<◌}
+use mathlib.Core.Bool.{true}
 use mathlib.Core.List.{List, [], ◌∷◌, ◌++◌, Memᴰ}
-use mathlib.Core.Path.{◌≡◌, refl, sym, ap, ◌∙◌}
+use mathlib.Core.Path.{◌≡◌, refl, sym, ap}
 use native.Mathlib.Omega.{arith}
 use lib.Dec.{leb}
 use lib.ListN.{length, get_or, take, drop}
-use borrow.Author.Tests.{le-leb, lt-leb, leb-true}
+use borrow.Author.Tests.{le-leb, leb-true}
 use Rattle.pages.proofs.Numbers.{and_left, and_right, both, not_both}
 use Rattle.pieces.specs.Pieces.{EntryIs, entry_here, entry_later, Small, metadata, raw, IsFree, is_free, same_class, kind_of, Kind, kindb, status_of}
 use Rattle.pieces.specs.declared.Class.TheVariants.{SmallMetadata, SmallRaw, Large}
@@ -76,12 +76,6 @@ kind_true k h =
 pub true_kind : (k : ℕ) → Kind k → kindb k ≡ true
 true_kind k h = both _ _ (le-leb 1 k h.least) (le-leb k 6 h.largest)
 
-pub kind_low : (k : ℕ) → k < 1 → kindb k ≡ false
-kind_low k h = rw (lt-leb 1 k h)
-
-pub kind_high : (k : ℕ) → 1 ≤ k → kindb k ≡ leb k 6
-kind_high k h = rw (le-leb 1 k h)
-
 pub kind_of_lem : (s : Status) → Kind (kind_of s)
 kind_of_lem (Live SmallMetadata) = record { least = omega arith; largest = omega arith }
 kind_of_lem (Live SmallRaw) = record { least = omega arith; largest = omega arith }
@@ -89,12 +83,6 @@ kind_of_lem (Live Large) = record { least = omega arith; largest = omega arith }
 kind_of_lem (Free SmallMetadata) = record { least = omega arith; largest = omega arith }
 kind_of_lem (Free SmallRaw) = record { least = omega arith; largest = omega arith }
 kind_of_lem (Free Large) = record { least = omega arith; largest = omega arith }
-
-pub kind_live : {s : Status} {k c : Class} → s ≡ Live k → k ≡ c → kind_of s ≡ kind_of (Live c)
-kind_live e f = ap kind_of e ∙ ap (λ (m : Class). kind_of (Live m)) f
-
-pub kind_free : {s : Status} {k c : Class} → s ≡ Free k → k ≡ c → kind_of s ≡ kind_of (Free c)
-kind_free e f = ap kind_of e ∙ ap (λ (m : Class). kind_of (Free m)) f
 
 pub status_kind : (s : Status) → status_of (kind_of s) ≡ s
 unfolding status_of

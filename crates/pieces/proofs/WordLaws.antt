@@ -7,15 +7,16 @@
 use Prim.Native.Nat.{ℕ, zero, suc, ◌+◌, ◌-◌, ◌*◌, ◌≤◌, ◌<◌}
 use mathlib.Core.List.{List, [], ◌∷◌, ◌++◌, append_assoc}
 use mathlib.Core.Path.{◌≡◌, refl, sym, ap, ◌∙◌}
-use native.Mathlib.Nat.{add-zero, zero-add}
+use native.Mathlib.Nat.{add-zero, zero-add, sub-zero}
 use native.Mathlib.Numerals.{add-one, add-two}
 use native.Mathlib.Omega.{arith}
 use lib.ListN.{length, get_or, take, drop, set, replicate}
 use lib.ListN.{length-append, length-replicate, length-take, length-drop, take-append-drop, get_or-replicate}
+use Rattle.std.proofs.lemmas.List.{get_or-take}
 use lib.Seq.{drop-cons, ext_get_or, get_or-drop, take_at, drop_at, drop-drop, sets-eq, get_or-append-add}
 use Rattle.pieces.proofs.PieceLaws.{kind_of_lem, status_kind, kind_status}
 use Rattle.pieces.specs.Pieces.{kind_of, Kind, EntryIs, entry_here, entry_later}
-use Rattle.pieces.specs.Words.{entry_words, kind_at, words_at, piece_of, entry_at, entries, words, table, laid, Zeros, EntriesOfTable, TableOfEntries}
+use Rattle.pieces.specs.Words.{entry_words, kind_at, words_at, piece_of, entry_at, entries, words_of, count_in, entries_in, words, table, laid, Zeros, EntriesOfTable, TableOfEntries}
 use Rattle.pieces.specs.declared.Piece.{Piece}
 use Rattle.pieces.specs.declared.Words.{Words}
 
@@ -98,6 +99,54 @@ take_entries w i n l = rw (entries_halves w i n l) (take_at (entries w 0 i) (ent
 
 pub drop_entries : (w : List ℕ) (i n : ℕ) → i ≤ n → drop i (entries w 0 n) ≡ entries w i (n - i)
 drop_entries w i n l = rw (entries_halves w i n l) (drop_at (entries w 0 i) (entries w i (n - i)) i (length_entries w 0 i))
+
+-- ---- the entries in a part of the words
+
+part_word : (w : List ℕ) (j m i k : ℕ) → i * entry_words + k < m
+    → get_or (take m (drop (j * entry_words) w)) (i * entry_words + k) 0 ≡ get_or w ((j + i) * entry_words + k) 0
+part_word w j m i k h =
+    let e : j * entry_words + (i * entry_words + k) ≡ (j + i) * entry_words + k = omega arith in
+    rw e at (get_or-take m (drop (j * entry_words) w) (i * entry_words + k) 0 h ∙ get_or-drop (j * entry_words) w (i * entry_words + k) 0)
+
+pub part_kind : (w : List ℕ) (j m i : ℕ) → (i + 1) * entry_words ≤ m → kind_at (take m (drop (j * entry_words) w)) i ≡ kind_at w (j + i)
+part_kind w j m i h = part_word w j m i 2 (omega arith)
+
+part_entry : (w : List ℕ) (j m i : ℕ) → (i + 1) * entry_words ≤ m → entry_at (take m (drop (j * entry_words) w)) i ≡ entry_at w (j + i)
+unfolding entry_at
+part_entry w j m i h =
+    let address = rw (add-zero (i * entry_words), add-zero ((j + i) * entry_words)) at (part_word w j m i 0 (omega arith)) in
+    rw (address, part_word w j m i 1 (omega arith), part_kind w j m i h)
+
+entries_in_part : (w : List ℕ) (j m i k : ℕ) → (i + k) * entry_words ≤ m → entries (take m (drop (j * entry_words) w)) i k ≡ entries w (j + i) k
+unfolding entries
+entries_in_part w j m i zero h = refl
+entries_in_part w j m i (suc k) h =
+    let e : j + suc i ≡ suc (j + i) = omega arith in
+    rw (part_entry w j m i (omega arith), entries_in_part w j m (suc i) k (omega arith), e)
+
+module _ (w : List ℕ) (i j : ℕ) (low : i ≤ j) (high : j * entry_words ≤ length w) where
+  -- they are as many entries as there are from i up to j
+  pub part_count : count_in (words_of w i j) ≡ j - i
+  part_count =
+      let l : length (words_of w i j) ≡ (j - i) * entry_words = simp (length-take, length-drop) (omega arith) in
+      rw l (omega arith)
+
+  pub part_entries : entries_in (words_of w i j) ≡ entries w i (j - i)
+  part_entries = rw part_count (rw (add-zero i) at (entries_in_part w i ((j - i) * entry_words) 0 (j - i) (omega arith)))
+
+-- the first n entries
+module _ (w : List ℕ) (n : ℕ) (there : n * entry_words ≤ length w) where
+  pub front_count : count_in (words_of w 0 n) ≡ n
+  front_count = omega (arith, part_count w 0 n (omega arith) there)
+
+  pub front_entries : entries_in (words_of w 0 n) ≡ entries w 0 n
+  front_entries = part_entries w 0 n (omega arith) there ∙ ap (entries w 0) (sub-zero n)
+
+  pub front_kind : (i : ℕ) → i < n → kind_at (words_of w 0 n) i ≡ kind_at w i
+  front_kind i lt = part_kind w 0 ((n - 0) * entry_words) i (omega arith) ∙ ap (kind_at w) (zero-add i)
+
+  pub front_entry : (i : ℕ) → i < n → entry_at (words_of w 0 n) i ≡ entry_at w i
+  front_entry i lt = part_entry w 0 ((n - 0) * entry_words) i (omega arith) ∙ ap (entry_at w) (zero-add i)
 
 -- ---- words of a part
 

@@ -6,6 +6,8 @@
 --   piece_of u           the piece that three words say
 --   entry_at w i          entry i of the words w
 --   entries w i k        k entries of w, from entry i on
+--   words_of w i j       the words of w that say the entries from i up to j
+--   count_in w           how many entries the words w fill; entries_in w, these entries
 --   words es             the words of the entries es
 --   table len es         the table of len words that holds the entries es: their words, then zeros
 --   laid w i es          the words w with the entries es in place of those from entry i on
@@ -18,7 +20,7 @@
 --   TableOfEntries       a slice with n entries of known kinds, and zeros behind them, is the table of what is read out of it
 --
 -- Assumes nothing.
-use Rattle.std.specs.Prelude.{◌≡◌, List, [], ◌∷◌, ◌++◌, ℕ, zero, suc, ◌+◌, ◌-◌, ◌*◌, ◌^◌, ◌≤◌, ◌<◌, length, get_or, take, drop, replicate}
+use Rattle.std.specs.Prelude.{◌≡◌, List, [], ◌∷◌, ◌++◌, ℕ, zero, suc, ◌+◌, ◌-◌, ◌*◌, ◌/◌, ◌^◌, ◌≤◌, ◌<◌, length, get_or, take, drop, replicate}
 use Rattle.pieces.specs.declared.Piece.{Piece}
 use Rattle.pieces.specs.declared.Words.{Words}
 use Rattle.pieces.specs.Pieces.{piece, behind, kind_of, Kind, status_of}
@@ -47,6 +49,15 @@ entry_at w i = piece_of (words_at w i)
 unfoldable pub entries : List ℕ → ℕ → ℕ → List Piece
 entries w i zero = []
 entries w i (suc k) = entry_at w i ∷ entries w (suc i) k
+
+abbrev pub words_of : List ℕ → ℕ → ℕ → List ℕ
+words_of w i j = take ((j - i) * entry_words) (drop (i * entry_words) w)
+
+abbrev pub count_in : List ℕ → ℕ
+count_in w = length w / entry_words
+
+abbrev pub entries_in : List ℕ → List Piece
+entries_in w = entries w 0 (count_in w)
 
 unfoldable pub words : List Piece → List ℕ
 words [] = []

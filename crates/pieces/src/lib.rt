@@ -9,30 +9,30 @@ pub mod kind;
 
 ghost use Rattle.std.specs.Prelude.{◌≡◌, [], ◌∷◌, ◌+◌, ◌*◌, ◌/◌, ◌≤◌, min, length};
 ghost use Rattle.pieces.specs.Pieces.{class_of, freeb, large_freeb, kind_of, kindb, status_of};
-ghost use Rattle.pieces.specs.Words.{entry_words, words_at, piece_of, entry_at, laid};
+ghost use Rattle.pieces.specs.Words.{entry_words, words_of, count_in, words_at, piece_of, entry_at, laid};
 
-#[derive(Clone, Copy)]
+#[derive(Clone, Copy, PartialEq, Eq, Debug)]
 pub enum Class {
     SmallMetadata,
     SmallRaw,
     Large,
 }
 
-#[derive(Clone, Copy)]
+#[derive(Clone, Copy, PartialEq, Eq, Debug)]
 pub enum Status {
     Live(Class),
     Free(Class),
 }
 
-#[derive(Clone, Copy)]
+#[derive(Clone, Copy, PartialEq, Eq, Debug)]
 pub struct Piece {
     pub address: u64,
     pub size: u64,
     pub status: Status,
 }
 
-// The three words of an entry as they stand, whatever they say.
-#[derive(Clone, Copy)]
+// The three words of an entry as they stand, whatever they say: the kind is a number here, since any word can stand there.
+#[derive(Clone, Copy, PartialEq, Eq, Debug)]
 pub struct Words {
     pub address: u64,
     pub size: u64,
@@ -55,78 +55,77 @@ const LEAST_KIND: u64 = 1;
 
 const LARGEST_KIND: u64 = FREE_LARGE;
 
-// How many entries to look at where a state counts so many and so many words are lent: those that it counts, as far as the words reach.
-pub fn entries_within(count: u64, words: usize) -> usize
-    ensures { result ≡ min count (words / entry_words) }
-{
-    let most = words / ENTRY_WORDS;
-    if (most as u64) < count {
-        return most;
+impl Status {
+    pub fn class(self) -> Class
+        ensures { result ≡ class_of self }
+    {
+        match self {
+            Status::Live(class) | Status::Free(class) => class,
+        }
     }
-    count as usize
-}
 
-pub fn class_of(status: Status) -> Class
-    ensures { result ≡ class_of status }
-{
-    match status {
-        Status::Live(c) => c,
-        Status::Free(c) => c,
+    pub fn is_free(self) -> bool
+        ensures { result ≡ freeb self }
+    {
+        matches!(self, Status::Free(_))
     }
-}
 
-pub fn is_free(status: Status) -> bool
-    ensures { result ≡ freeb status }
-{
-    match status {
-        Status::Live(_) => false,
-        Status::Free(_) => true,
-    }
-}
-
-// Whether a status is free large.
-pub fn is_large_free(status: Status) -> bool
-    ensures { result ≡ large_freeb status }
-{
-    match status {
-        Status::Live(_) => false,
-        Status::Free(c) => match c {
-            Class::SmallMetadata => false,
-            Class::SmallRaw => false,
-            Class::Large => true,
-        },
+    // Whether a status is free large.
+    pub fn is_large_free(self) -> bool
+        ensures { result ≡ large_freeb self }
+    {
+        self == Status::Free(Class::Large)
     }
 }
 
 // The kind, 1 to 6, of a status.
-pub fn kind_of(status: Status) -> u64
-    ensures { result ≡ kind_of status }
-{
-    match status {
-        Status::Live(c) => match c {
-            Class::SmallMetadata => 1,
-            Class::SmallRaw => 2,
-            Class::Large => LIVE_LARGE,
-        },
-        Status::Free(c) => match c {
-            Class::SmallMetadata => FREE_METADATA,
-            Class::SmallRaw => 5,
-            Class::Large => FREE_LARGE,
-        },
+impl From<Status> for u64 {
+    ghost from_gives = { λ status kind. kind ≡ kind_of status };
+
+    fn from(status: Status) -> u64 {
+        match status {
+            Status::Live(Class::SmallMetadata) => 1,
+            Status::Live(Class::SmallRaw) => 2,
+            Status::Live(Class::Large) => LIVE_LARGE,
+            Status::Free(Class::SmallMetadata) => FREE_METADATA,
+            Status::Free(Class::SmallRaw) => 5,
+            Status::Free(Class::Large) => FREE_LARGE,
+        }
     }
+}
+
+// How many entries to look at where a state counts so many and so many words are lent: those that it counts, as far as the words reach.
+pub fn entries_within(count: u64, words: usize) -> usize
+    ensures { result ≡ min count (words / entry_words) }
+{
+    count.min((words / ENTRY_WORDS) as u64) as usize
+}
+
+// How many entries the words fill.
+pub fn count_in(words: &[u64]) -> usize
+    ensures { result ≡ count_in words.now }
+{
+    words.len() / ENTRY_WORDS
+}
+
+// The words of the entries from one up to another.
+pub fn words_of(table: &[u64], from: usize, to: usize) -> &[u64]
+    requires { (from ≤ to) × (to * entry_words ≤ length table.now) }
+    ensures { result.now ≡ words_of table.now from to }
+{
+    &table[from * ENTRY_WORDS..to * ENTRY_WORDS]
 }
 
 // Whether a word is a kind.
 pub fn is_kind(word: u64) -> bool
     ensures { result ≡ kindb word }
 {
-    if word < LEAST_KIND {
-        return false;
-    }
-    word <= LARGEST_KIND
+    (LEAST_KIND..=LARGEST_KIND).contains(&word)
 }
 
-// The status of a kind. A word that is no kind, which no sound table has, is read as 6.
+// The status of a kind. A word that is no kind, which no sound table has, is read as 6: what loses that is no `From`, and nobody could use the error
+// of a `TryFrom`.
+#[tactic(auto, unfolding(crate::specs::Pieces::status_of))]
 pub fn status_of(kind: u64) -> Status
     ensures { result ≡ status_of kind }
 {
@@ -186,8 +185,7 @@ pub fn put(table: &mut [u64], i: usize, piece: Piece)
     ensures { table.new ≡ laid table.old i (piece ∷ []) }
 {
     let at = i * ENTRY_WORDS;
-    let status = piece.status;
     table[at] = piece.address;
     table[at + SIZE_WORD] = piece.size;
-    table[at + KIND_WORD] = kind_of(status);
+    table[at + KIND_WORD] = u64::from(piece.status);
 }

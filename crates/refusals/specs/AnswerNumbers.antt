@@ -2,26 +2,28 @@
 --
 --   out_of_range .. other_size      the numbered refusals; success is 0. 10 to 12 are a message's, and 10 a listing's too. No refusal has the number 7
 --   no_address                      the address answer of a refused call
---   open_number, allocate_number, ..  the number of each case of each call's answer; not_named_number, not_resized_number of each reason why a piece is
---                                   not named, or keeps its size
---   address_of, count_of              the address answer, the count answer, of each case
+--   open_refusal .. list_refusal    the number of each refusal of each call; not_named_number, not_resized_number of each reason why a piece is not
+--                                   named, or keeps its size
+--   number_by f r                   the number of an answer r: 0, or f of its refusal
+--   open_number .. list_number      the number of each case of each call's answer
+--   address_of, count_of            the address answer, the count answer, of each case
 --
 -- Assumes nothing.
-use Rattle.std.specs.Prelude.{ℕ, ◌-◌, ◌^◌}
-use Rattle.refusals.specs.declared.OpenAnswer.{OpenAnswer}
-use Rattle.refusals.specs.declared.AllocateAnswer.{AllocateAnswer}
+use Rattle.std.specs.Prelude.{ℕ, ◌-◌, ◌^◌, Result, Ok, Err}
+use Rattle.refusals.specs.declared.OpenRefusal.{OpenRefusal}
+use Rattle.refusals.specs.declared.AllocateRefusal.{AllocateRefusal}
 use Rattle.refusals.specs.declared.NotNamed.{NotNamed}
-use Rattle.refusals.specs.declared.ReleaseAnswer.{ReleaseAnswer}
+use Rattle.refusals.specs.declared.ReleaseRefusal.{ReleaseRefusal}
 use Rattle.refusals.specs.declared.NotResized.{NotResized}
-use Rattle.refusals.specs.declared.ResizeAnswer.{ResizeAnswer}
-use Rattle.refusals.specs.declared.ListAnswer.{ListAnswer}
-use Rattle.refusals.specs.declared.OpenAnswer.TheVariants as opening
-use Rattle.refusals.specs.declared.AllocateAnswer.TheVariants as allocating
+use Rattle.refusals.specs.declared.ResizeRefusal.{ResizeRefusal}
+use Rattle.refusals.specs.declared.ListRefusal.{ListRefusal}
+use Rattle.refusals.specs.declared.OpenRefusal.TheVariants as opening
+use Rattle.refusals.specs.declared.AllocateRefusal.TheVariants as allocating
 use Rattle.refusals.specs.declared.NotNamed.TheVariants as unnamed
-use Rattle.refusals.specs.declared.ReleaseAnswer.TheVariants as releasing
+use Rattle.refusals.specs.declared.ReleaseRefusal.TheVariants as releasing
 use Rattle.refusals.specs.declared.NotResized.TheVariants as unsized
-use Rattle.refusals.specs.declared.ResizeAnswer.TheVariants as resizing
-use Rattle.refusals.specs.declared.ListAnswer.TheVariants as listing
+use Rattle.refusals.specs.declared.ResizeRefusal.TheVariants as resizing
+use Rattle.refusals.specs.declared.ListRefusal.TheVariants as listing
 
 -- ---- the numbers
 
@@ -74,61 +76,72 @@ other_size = 16
 abbrev pub no_address : ℕ
 no_address = 2 ^ 64 - 1
 
--- ---- each case of each answer
+-- ---- each refusal of each call
 
-abbrev pub open_number : OpenAnswer → ℕ
-open_number opening.Done = 0
-open_number opening.OutOfRange = out_of_range
+abbrev pub open_refusal : OpenRefusal → ℕ
+open_refusal opening.OutOfRange = out_of_range
 
-abbrev pub allocate_number : AllocateAnswer → ℕ
-allocate_number (allocating.At a) = 0
-allocate_number allocating.NotSound = not_sound
-allocate_number allocating.UnknownType = unknown_code
-allocate_number allocating.NoBytes = zero_asked
-allocate_number allocating.BeyondLimit = beyond_limit
-allocate_number allocating.TableFull = table_full
-
-abbrev pub address_of : AllocateAnswer → ℕ
-address_of (allocating.At a) = a
-address_of allocating.NotSound = no_address
-address_of allocating.UnknownType = no_address
-address_of allocating.NoBytes = no_address
-address_of allocating.BeyondLimit = no_address
-address_of allocating.TableFull = no_address
+abbrev pub allocate_refusal : AllocateRefusal → ℕ
+allocate_refusal allocating.NotSound = not_sound
+allocate_refusal allocating.UnknownType = unknown_code
+allocate_refusal allocating.NoBytes = zero_asked
+allocate_refusal allocating.BeyondLimit = beyond_limit
+allocate_refusal allocating.TableFull = table_full
 
 abbrev pub not_named_number : NotNamed → ℕ
-not_named_number unnamed.NoBytes = zero_asked
 not_named_number unnamed.BeyondEnd = beyond_end
 not_named_number unnamed.InFree = in_free
 not_named_number unnamed.InsideLive = inside_live
 not_named_number unnamed.OtherSize = other_size
 
-abbrev pub release_number : ReleaseAnswer → ℕ
-release_number releasing.Done = 0
-release_number releasing.NotSound = not_sound
-release_number (releasing.NotNamed why) = not_named_number why
-release_number releasing.TableFull = table_full
+abbrev pub release_refusal : ReleaseRefusal → ℕ
+release_refusal releasing.NotSound = not_sound
+release_refusal (releasing.NotNamed why) = not_named_number why
+release_refusal releasing.TableFull = table_full
 
 abbrev pub not_resized_number : NotResized → ℕ
 not_resized_number unsized.NoRoomBehind = no_room_behind
 not_resized_number unsized.BeyondLimit = beyond_limit
 not_resized_number unsized.TooLittleLeft = too_little_left
 
-abbrev pub resize_number : ResizeAnswer → ℕ
-resize_number resizing.Done = 0
-resize_number resizing.NotSound = not_sound
-resize_number (resizing.NotNamed why) = not_named_number why
-resize_number (resizing.NotResized why) = not_resized_number why
-resize_number resizing.TableFull = table_full
+abbrev pub resize_refusal : ResizeRefusal → ℕ
+resize_refusal resizing.NotSound = not_sound
+resize_refusal resizing.NoBytes = zero_asked
+resize_refusal (resizing.NotNamed why) = not_named_number why
+resize_refusal (resizing.NotResized why) = not_resized_number why
+resize_refusal resizing.TableFull = table_full
 
-abbrev pub list_number : ListAnswer → ℕ
-list_number (listing.Sections k) = 0
-list_number listing.NotSound = not_sound
-list_number listing.UnknownManager = unknown_code
-list_number listing.SliceTooShort = slice_too_short
+abbrev pub list_refusal : ListRefusal → ℕ
+list_refusal listing.NotSound = not_sound
+list_refusal listing.UnknownManager = unknown_code
+list_refusal listing.SliceTooShort = slice_too_short
 
-abbrev pub count_of : ListAnswer → ℕ
-count_of (listing.Sections k) = k
-count_of listing.NotSound = 0
-count_of listing.UnknownManager = 0
-count_of listing.SliceTooShort = 0
+-- ---- each case of each answer
+
+-- 0, where the call is accepted, and else the number of its refusal
+abbrev pub number_by : {T E : Type 0} → (E → ℕ) → Result T E → ℕ
+number_by number (Ok x) = 0
+number_by number (Err e) = number e
+
+abbrev pub open_number : Result Unit OpenRefusal → ℕ
+open_number r = number_by open_refusal r
+
+abbrev pub allocate_number : Result ℕ AllocateRefusal → ℕ
+allocate_number r = number_by allocate_refusal r
+
+abbrev pub address_of : Result ℕ AllocateRefusal → ℕ
+address_of (Ok a) = a
+address_of (Err e) = no_address
+
+abbrev pub release_number : Result Unit ReleaseRefusal → ℕ
+release_number r = number_by release_refusal r
+
+abbrev pub resize_number : Result Unit ResizeRefusal → ℕ
+resize_number r = number_by resize_refusal r
+
+abbrev pub list_number : Result ℕ ListRefusal → ℕ
+list_number r = number_by list_refusal r
+
+abbrev pub count_of : Result ℕ ListRefusal → ℕ
+count_of (Ok k) = k
+count_of (Err e) = 0

@@ -1,19 +1,20 @@
-// The numbered refusals, and what the calls on a space answer: one case for each refusal that a call can give, and its number.
+// The numbered refusals, and why a call on a space is refused: one case for each refusal that the call can give, and its number. A call that is
+// accepted answers `Ok`, with what it tells, and any other `Err` with its refusal.
 #![tactic(auto)]
 
-ghost use Rattle.std.specs.Prelude.{◌≡◌};
-ghost use Rattle.refusals.specs.AnswerNumbers.{open_number, allocate_number, address_of, list_number, count_of};
-ghost use Rattle.refusals.specs.AnswerNumbers.{not_named_number, release_number, not_resized_number, resize_number};
+ghost use Rattle.std.specs.Prelude.{◌≡◌, ℕ};
+ghost use Rattle.refusals.specs.AnswerNumbers.{number_by, open_refusal, allocate_refusal, not_named_number, release_refusal};
+ghost use Rattle.refusals.specs.AnswerNumbers.{not_resized_number, resize_refusal, list_refusal};
+ghost use Rattle.refusals.specs.NeverZero.{open_some, allocate_some, not_named_some, release_some, not_resized_some, resize_some, list_some};
+ghost use Rattle.refusals.specs.declared.ResizeRefusal.TheVariants.{NotResized};
 
-#[derive(Clone, Copy)]
-pub enum OpenAnswer {
-    Done,
+#[derive(Clone, Copy, Debug, PartialEq, Eq)]
+pub enum OpenRefusal {
     OutOfRange,
 }
 
-#[derive(Clone, Copy)]
-pub enum AllocateAnswer {
-    At(u64),
+#[derive(Clone, Copy, Debug, PartialEq, Eq)]
+pub enum AllocateRefusal {
     NotSound,
     UnknownType,
     NoBytes,
@@ -21,49 +22,54 @@ pub enum AllocateAnswer {
     TableFull,
 }
 
-// Why a call that names a piece by address and size goes no further: a size or change of 0, which is no release's; or the address is at or beyond
-// the end, lies in free space, lies inside a live piece and isn't its start, or is a live piece's start and the size differs.
-#[derive(Clone, Copy)]
+// Why an address and a size name no live piece: the address is at or beyond the end, lies in free space, lies inside a live piece and isn't its
+// start, or is a live piece's start and the size differs.
+#[derive(Clone, Copy, Debug, PartialEq, Eq)]
 pub enum NotNamed {
-    NoBytes,
     BeyondEnd,
     InFree,
     InsideLive,
     OtherSize,
 }
 
-#[derive(Clone, Copy)]
-pub enum ReleaseAnswer {
-    Done,
+#[derive(Clone, Copy, Debug, PartialEq, Eq)]
+pub enum ReleaseRefusal {
     NotSound,
     NotNamed(NotNamed),
     TableFull,
 }
 
 // Why a named piece keeps its size: the first two are an extend's, the third is a shorten's.
-#[derive(Clone, Copy)]
+#[derive(Clone, Copy, Debug, PartialEq, Eq)]
 pub enum NotResized {
     NoRoomBehind,
     BeyondLimit,
     TooLittleLeft,
 }
 
-// Of an extend and of a shorten.
-#[derive(Clone, Copy)]
-pub enum ResizeAnswer {
-    Done,
+// Of an extend and of a shorten; `NoBytes` is a size or a change of 0.
+#[derive(Clone, Copy, Debug, PartialEq, Eq)]
+pub enum ResizeRefusal {
     NotSound,
+    NoBytes,
     NotNamed(NotNamed),
     NotResized(NotResized),
     TableFull,
 }
 
-#[derive(Clone, Copy)]
-pub enum ListAnswer {
-    Sections(u64),
+#[derive(Clone, Copy, Debug, PartialEq, Eq)]
+pub enum ListRefusal {
     NotSound,
     UnknownManager,
     SliceTooShort,
+}
+
+impl From<NotResized> for ResizeRefusal {
+    ghost from_gives = { λ why r. r ≡ NotResized why };
+
+    fn from(why: NotResized) -> ResizeRefusal {
+        ResizeRefusal::NotResized(why)
+    }
 }
 
 // The number of each answer: 0 where the call is accepted. Each refusal's number stands once, under its name. 10 to 12 are a message's, and 10 a
@@ -103,104 +109,123 @@ pub const OTHER_SIZE: u64 = 16;
 // The address answer of a refused call.
 pub const NO_ADDRESS: u64 = 18446744073709551615;
 
-pub fn open_number(answer: OpenAnswer) -> u64
-    ensures { result ≡ open_number answer }
+// A refusal has one of these numbers, and never the 0 of a call that is accepted.
+pub trait Refusal: Copy {
+    ghost by_number: { Self → ℕ };
+
+    fn number(self) -> u64
+        ensures { result ≡ by_number self };
+
+    ghost never_0: { (refusal : Self) → by_number refusal ≡ 0 → ⊥ };
+}
+
+impl Refusal for OpenRefusal {
+    ghost by_number = { open_refusal };
+
+    ghost never_0 = { open_some };
+
+    fn number(self) -> u64 {
+        match self {
+            OpenRefusal::OutOfRange => OUT_OF_RANGE,
+        }
+    }
+}
+
+impl Refusal for AllocateRefusal {
+    ghost by_number = { allocate_refusal };
+
+    ghost never_0 = { allocate_some };
+
+    fn number(self) -> u64 {
+        match self {
+            AllocateRefusal::NotSound => NOT_SOUND,
+            AllocateRefusal::UnknownType => UNKNOWN_CODE,
+            AllocateRefusal::NoBytes => ZERO_ASKED,
+            AllocateRefusal::BeyondLimit => BEYOND_LIMIT,
+            AllocateRefusal::TableFull => TABLE_FULL,
+        }
+    }
+}
+
+impl Refusal for NotNamed {
+    ghost by_number = { not_named_number };
+
+    ghost never_0 = { not_named_some };
+
+    fn number(self) -> u64 {
+        match self {
+            NotNamed::BeyondEnd => BEYOND_END,
+            NotNamed::InFree => IN_FREE,
+            NotNamed::InsideLive => INSIDE_LIVE,
+            NotNamed::OtherSize => OTHER_SIZE,
+        }
+    }
+}
+
+impl Refusal for ReleaseRefusal {
+    ghost by_number = { release_refusal };
+
+    ghost never_0 = { release_some };
+
+    fn number(self) -> u64 {
+        match self {
+            ReleaseRefusal::NotSound => NOT_SOUND,
+            ReleaseRefusal::NotNamed(why) => why.number(),
+            ReleaseRefusal::TableFull => TABLE_FULL,
+        }
+    }
+}
+
+impl Refusal for NotResized {
+    ghost by_number = { not_resized_number };
+
+    ghost never_0 = { not_resized_some };
+
+    fn number(self) -> u64 {
+        match self {
+            NotResized::NoRoomBehind => NO_ROOM_BEHIND,
+            NotResized::BeyondLimit => BEYOND_LIMIT,
+            NotResized::TooLittleLeft => TOO_LITTLE_LEFT,
+        }
+    }
+}
+
+impl Refusal for ResizeRefusal {
+    ghost by_number = { resize_refusal };
+
+    ghost never_0 = { resize_some };
+
+    fn number(self) -> u64 {
+        match self {
+            ResizeRefusal::NotSound => NOT_SOUND,
+            ResizeRefusal::NoBytes => ZERO_ASKED,
+            ResizeRefusal::NotNamed(why) => why.number(),
+            ResizeRefusal::NotResized(why) => why.number(),
+            ResizeRefusal::TableFull => TABLE_FULL,
+        }
+    }
+}
+
+impl Refusal for ListRefusal {
+    ghost by_number = { list_refusal };
+
+    ghost never_0 = { list_some };
+
+    fn number(self) -> u64 {
+        match self {
+            ListRefusal::NotSound => NOT_SOUND,
+            ListRefusal::UnknownManager => UNKNOWN_CODE,
+            ListRefusal::SliceTooShort => SLICE_TOO_SHORT,
+        }
+    }
+}
+
+// The number of an answer.
+pub fn number_of<T: Copy, E: Refusal>(answer: Result<T, E>) -> u64
+    ensures { result ≡ number_by E.by_number answer }
 {
     match answer {
-        OpenAnswer::Done => DONE,
-        OpenAnswer::OutOfRange => OUT_OF_RANGE,
-    }
-}
-
-pub fn allocate_number(answer: AllocateAnswer) -> u64
-    ensures { result ≡ allocate_number answer }
-{
-    match answer {
-        AllocateAnswer::At(_) => DONE,
-        AllocateAnswer::NotSound => NOT_SOUND,
-        AllocateAnswer::UnknownType => UNKNOWN_CODE,
-        AllocateAnswer::NoBytes => ZERO_ASKED,
-        AllocateAnswer::BeyondLimit => BEYOND_LIMIT,
-        AllocateAnswer::TableFull => TABLE_FULL,
-    }
-}
-
-pub fn address_of(answer: AllocateAnswer) -> u64
-    ensures { result ≡ address_of answer }
-{
-    match answer {
-        AllocateAnswer::At(address) => address,
-        AllocateAnswer::NotSound => NO_ADDRESS,
-        AllocateAnswer::UnknownType => NO_ADDRESS,
-        AllocateAnswer::NoBytes => NO_ADDRESS,
-        AllocateAnswer::BeyondLimit => NO_ADDRESS,
-        AllocateAnswer::TableFull => NO_ADDRESS,
-    }
-}
-
-pub fn not_named_number(why: NotNamed) -> u64
-    ensures { result ≡ not_named_number why }
-{
-    match why {
-        NotNamed::NoBytes => ZERO_ASKED,
-        NotNamed::BeyondEnd => BEYOND_END,
-        NotNamed::InFree => IN_FREE,
-        NotNamed::InsideLive => INSIDE_LIVE,
-        NotNamed::OtherSize => OTHER_SIZE,
-    }
-}
-
-pub fn release_number(answer: ReleaseAnswer) -> u64
-    ensures { result ≡ release_number answer }
-{
-    match answer {
-        ReleaseAnswer::Done => DONE,
-        ReleaseAnswer::NotSound => NOT_SOUND,
-        ReleaseAnswer::NotNamed(why) => not_named_number(why),
-        ReleaseAnswer::TableFull => TABLE_FULL,
-    }
-}
-
-pub fn not_resized_number(why: NotResized) -> u64
-    ensures { result ≡ not_resized_number why }
-{
-    match why {
-        NotResized::NoRoomBehind => NO_ROOM_BEHIND,
-        NotResized::BeyondLimit => BEYOND_LIMIT,
-        NotResized::TooLittleLeft => TOO_LITTLE_LEFT,
-    }
-}
-
-pub fn resize_number(answer: ResizeAnswer) -> u64
-    ensures { result ≡ resize_number answer }
-{
-    match answer {
-        ResizeAnswer::Done => DONE,
-        ResizeAnswer::NotSound => NOT_SOUND,
-        ResizeAnswer::NotNamed(why) => not_named_number(why),
-        ResizeAnswer::NotResized(why) => not_resized_number(why),
-        ResizeAnswer::TableFull => TABLE_FULL,
-    }
-}
-
-pub fn list_number(answer: ListAnswer) -> u64
-    ensures { result ≡ list_number answer }
-{
-    match answer {
-        ListAnswer::Sections(_) => DONE,
-        ListAnswer::NotSound => NOT_SOUND,
-        ListAnswer::UnknownManager => UNKNOWN_CODE,
-        ListAnswer::SliceTooShort => SLICE_TOO_SHORT,
-    }
-}
-
-pub fn count_of(answer: ListAnswer) -> u64
-    ensures { result ≡ count_of answer }
-{
-    match answer {
-        ListAnswer::Sections(count) => count,
-        ListAnswer::NotSound => 0,
-        ListAnswer::UnknownManager => 0,
-        ListAnswer::SliceTooShort => 0,
+        Ok(_) => DONE,
+        Err(refusal) => refusal.number(),
     }
 }

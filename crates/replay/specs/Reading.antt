@@ -2,12 +2,9 @@
 --
 --   buffer_bytes    the bytes of the buffer: whole blocks
 --   Carried r       the judge fits, and the buffer has room
---   Within r n m    what was read behind n bytes is within m
-use Rattle.std.specs.Prelude.{ℕ, ◌*◌, ◌≤◌, ◌<◌}
+use Rattle.std.specs.Prelude.{ℕ, ◌*◌, ◌<◌}
 use Rattle.log_check.specs.Check.{block_bytes}
 use Rattle.log_judge.specs.Carried.{Fits}
-use Rattle.replay.specs.declared.Got.{Got}
-use Rattle.replay.specs.declared.Got.TheVariants.{Up, End, Failure}
 use Rattle.replay.specs.declared.Reading.{Reading}
 
 abbrev pub buffer_bytes : ℕ
@@ -16,8 +13,3 @@ buffer_bytes = 128 * block_bytes
 pub record Carried (r : Reading) : Type 0 where
   pub fits : Fits r.judge
   pub room : r.filled < buffer_bytes
-
-abbrev pub Within : Got → ℕ → ℕ → Type 0
-Within (Up to) n m = (n ≤ to) × (to ≤ m)
-Within End n m = Unit
-Within Failure n m = Unit

@@ -6,6 +6,7 @@ ghost use Rattle.requests.specs.Requests.{typeb, class_for, managerb, class_of_m
 
 use pieces::Class;
 
+// The codes are document 01's: a request may name any number, and has an answer for each, so they stay numbers.
 pub const METADATA: u64 = 1;
 
 pub const RAW: u64 = 2;
@@ -16,13 +17,11 @@ pub const LARGE: u64 = 3;
 pub fn is_type(code: u64) -> bool
     ensures { result ≡ typeb code }
 {
-    if code == METADATA {
-        return true;
-    }
-    code == RAW
+    code == METADATA || code == RAW
 }
 
 // The class of a piece of this size and type.
+#[tactic(auto, unfolding(crate::specs::Requests::class_for))]
 pub fn class_for(p: u64, code: u64, size: u64) -> Class
     ensures { result ≡ class_for p code size }
 {
@@ -39,34 +38,24 @@ pub fn class_for(p: u64, code: u64, size: u64) -> Class
 pub fn is_manager(code: u64) -> bool
     ensures { result ≡ managerb code }
 {
-    if code == METADATA {
-        return true;
-    }
-    if code == RAW {
-        return true;
-    }
-    code == LARGE
+    code == METADATA || code == RAW || code == LARGE
 }
 
 // The class of a manager's sections.
+#[tactic(auto, unfolding(crate::specs::Requests::class_of_manager))]
 pub fn class_of_manager(manager: u64) -> Class
     ensures { result ≡ class_of_manager manager }
 {
-    if manager == METADATA {
-        return Class::SmallMetadata;
+    match manager {
+        METADATA => Class::SmallMetadata,
+        RAW => Class::SmallRaw,
+        _ => Class::Large,
     }
-    if manager == RAW {
-        return Class::SmallRaw;
-    }
-    Class::Large
 }
 
 // Whether the size or the change is 0.
 pub fn is_zero(size: u64, by: u64) -> bool
     ensures { result ≡ (eqb size 0 || eqb by 0) }
 {
-    if size == 0 {
-        return true;
-    }
-    by == 0
+    size == 0 || by == 0
 }

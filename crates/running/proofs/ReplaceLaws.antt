@@ -14,7 +14,7 @@ use lib.Seq.{ext_get_or, get_or-set_same, get_or-set_other}
 use Rattle.pages.proofs.Numbers.{split}
 use Rattle.pieces.proofs.WordLaws.{length_entries}
 use Rattle.pieces.specs.Pieces.{manager_of}
-use Rattle.pieces.specs.Words.{entries}
+use Rattle.pieces.specs.Words.{count_in, entries_in}
 use Rattle.pieces.specs.declared.Class.{Class}
 use Rattle.pieces.specs.declared.Piece.{Piece}
 use Rattle.sections.proofs.SectionLaws.{sections_append}
@@ -136,13 +136,13 @@ pub record Becomes (xs ys zs ts : List ℕ) : Type 0 where
   pub can : Exchangeable xs ys zs
   pub is : exchanged xs ys zs ≡ ts
 
-module _ {given was is : Summary} {w : List ℕ} {n : ℕ} (r : Replaces given was is w n) where
+module _ {given was is : Summary} {w : List ℕ} (r : Replaces given was is w) where
   given_of : given ≡ summary_of given.moved (r.front ++ (r.gone ++ r.back))
   given_of = agrees_summary given (r.front ++ (r.gone ++ r.back)) r.agreed
 
   module _ (key f : Piece → ℕ) (m : ℕ) (of : List Piece → List ℕ) (is_keyed : (es : List Piece) → of es ≡ keyed ◌+◌ key f m es) where
-    becomes : ((i : ℕ) → get_or (keyed ◌+◌ key f m (entries w 0 n)) i 0 < 2 ^ 64)
-        → Becomes (of (r.front ++ (r.gone ++ r.back))) (of r.gone) (of r.laid) (of (entries w 0 n))
+    becomes : ((i : ℕ) → get_or (keyed ◌+◌ key f m (entries_in w)) i 0 < 2 ^ 64)
+        → Becomes (of (r.front ++ (r.gone ++ r.back))) (of r.gone) (of r.laid) (of (entries_in w))
     becomes small =
         rw (r.stands, is_keyed (r.front ++ (r.gone ++ r.back)), is_keyed r.gone, is_keyed r.laid, is_keyed (r.front ++ (r.laid ++ r.back)))
         (record {
@@ -150,28 +150,25 @@ module _ {given was is : Summary} {w : List ℕ} {n : ℕ} (r : Replaces given w
           is = exchange key f m r.front r.gone r.laid r.back;
         })
 
-  small_count : (key : Piece → ℕ) (m i : ℕ) → get_or (keyed ◌+◌ key one m (entries w 0 n)) i 0 < 2 ^ 64
-  small_count key m i = omega (arith, r.countable.few, keyed_count key m i (entries w 0 n), length_entries w 0 n)
+  small_count : (key : Piece → ℕ) (m i : ℕ) → get_or (keyed ◌+◌ key one m (entries_in w)) i 0 < 2 ^ 64
+  small_count key m i = omega (arith, r.countable.few, keyed_count key m i (entries_in w), length_entries w 0 (count_in w))
 
-  small_bytes : (i : ℕ) → get_or (keyed ◌+◌ manager size_of managers (entries w 0 n)) i 0 < 2 ^ 64
-  small_bytes i =
-      let z : n - 0 ≡ n = omega arith in
-      let all = rw z at r.countable.fits in
-      omega (arith, all, keyed_bytes managers i (entries w 0 n))
+  small_bytes : (i : ℕ) → get_or (keyed ◌+◌ manager size_of managers (entries_in w)) i 0 < 2 ^ 64
+  small_bytes i = omega (arith, r.countable.fits, keyed_bytes managers i (entries_in w))
 
-  pub sections_become : Becomes given.sections was.sections is.sections (numbers_of (entries w 0 n))
+  pub sections_become : Becomes given.sections was.sections is.sections (numbers_of (entries_in w))
   sections_become =
       rw (given_of, r.was_gone, r.is_laid) (becomes manager one managers numbers_of numbers_keyed (small_count manager managers))
 
-  pub bytes_become : Becomes given.bytes was.bytes is.bytes (bytes_of (entries w 0 n))
+  pub bytes_become : Becomes given.bytes was.bytes is.bytes (bytes_of (entries_in w))
   bytes_become = rw (given_of, r.was_gone, r.is_laid) (becomes manager size_of managers bytes_of bytes_keyed small_bytes)
 
-  pub decades_become : Becomes given.decades was.decades is.decades (decades_of (entries w 0 n))
+  pub decades_become : Becomes given.decades was.decades is.decades (decades_of (entries_in w))
   decades_become = rw (given_of, r.was_gone, r.is_laid) (becomes decade one decades decades_of decades_keyed (small_count decade decades))
 
   pub largest_beside : (k : Class)
       → Beside (get_or given.largest (manager_of k) 0) (get_or was.largest (manager_of k) 0) (get_or is.largest (manager_of k) 0)
-      (largest (sections k (entries w 0 n)))
+      (largest (sections k (entries_in w)))
   unfolding largest_of
   largest_beside k =
       let at : (es : List Piece) → get_or (largest_of es) (manager_of k) 0 ≡ largest (sections k es) = λ es. per_at (λ j. largest (sections j es)) k in

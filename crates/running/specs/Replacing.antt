@@ -4,11 +4,10 @@
 --   Exchangeable xs ys zs        none falls below 0 or passes 64 bits on the way
 --   Beside given was is after    the largest sections of what gave way (was) and of what came (is) stand beside those of all the rest:
 --                                with the former it was `given`, with the latter it is `after`
---   Replaces given was is w n    the words w hold n entries that came of entries which `given` agrees with, where those that `was` is the
---                                summary of gave way to those that `is` is the summary of
---
+--   Replaces given was is w      the entries of the words w came of entries which `given` agrees with, where those that `was` is the summary
+--                                of gave way to those that `is` is the summary of
 use Rattle.std.specs.Prelude.{true, List, ◌++◌, ◌≡◌, ℕ, ◌+◌, ◌-◌, ◌^◌, ◌≤◌, ◌<◌, max, pos, length, get_or}
-use Rattle.pieces.specs.Words.{entries}
+use Rattle.pieces.specs.Words.{entries_in}
 use Rattle.pieces.specs.declared.Piece.{Piece}
 use Rattle.totals.specs.Counting.{Countable}
 use Rattle.totals.specs.Summary.{each_from, summary_of, agreesb}
@@ -28,7 +27,7 @@ pub record Beside (given was is after : ℕ) : Type 0 where
   pub before_it : given ≡ max rest was
   pub after_it : after ≡ max rest is
 
-pub record Replaces (given was is : Summary) (w : List ℕ) (n : ℕ) : Type 0 where
+pub record Replaces (given was is : Summary) (w : List ℕ) : Type 0 where
   pub front : List Piece
   pub gone : List Piece
   pub laid : List Piece
@@ -36,5 +35,5 @@ pub record Replaces (given was is : Summary) (w : List ℕ) (n : ℕ) : Type 0 w
   pub agreed : agreesb given (front ++ (gone ++ back)) ≡ true
   pub was_gone : was ≡ summary_of (pos 0) gone
   pub is_laid : is ≡ summary_of (pos 0) laid
-  pub stands : entries w 0 n ≡ front ++ (laid ++ back)
-  pub countable : Countable w 0 n
+  pub stands : entries_in w ≡ front ++ (laid ++ back)
+  pub countable : Countable w

@@ -1,52 +1,42 @@
 // The forms of an answer.
-use crate::{labelled, text};
-use space::Space;
-use space::answers::DONE;
+use space::answers::{Allocated, Answered, DONE, Refusal, number_of};
+use std::fmt;
 use std::io::Stdout;
 
-pub fn wrong(stdout: Stdout, line: u64, what: &[u8]) {
-    labelled(stdout, b"line ", line);
-    text(stdout, b": ");
-    text(stdout, what);
-    text(stdout, b"\n");
-}
-
-// What is wrong with a word where a number is due.
-pub fn too_large(stdout: Stdout, line: u64) {
-    wrong(stdout, line, b"number too large");
-}
-
-pub fn no_number(stdout: Stdout, line: u64) {
-    wrong(stdout, line, b"not a number");
-}
-
-// How the answer of a call ends: with the state that it handed back.
-fn ended(stdout: Stdout, space: Space) {
-    labelled(stdout, b"; end ", space.end);
-    labelled(stdout, b"; ", space.count);
-    text(stdout, b" entries\n");
-}
-
-// The address at which a piece was placed, where the number is that of an accepted call; else the refusal.
-pub fn placed(stdout: Stdout, space: Space, number: u64, address: u64) {
-    if number == DONE {
-        labelled(stdout, b"at ", address);
-        ended(stdout, space);
-        return;
-    }
-    told(stdout, space, number);
-}
-
-pub fn told(stdout: Stdout, space: Space, number: u64) {
-    say_told(stdout, number);
-    ended(stdout, space);
-}
-
 // Done or refused, by the number.
-pub fn say_told(stdout: Stdout, number: u64) {
-    if number == DONE {
-        text(stdout, b"done");
-        return;
+#[derive(Clone, Copy)]
+pub struct Verdict(pub u64);
+
+impl fmt::Display for Verdict {
+    fn fmt<W: fmt::Write>(&self, f: &mut fmt::Formatter<W>) -> fmt::Result {
+        match self.0 {
+            DONE => f.write_str("done"),
+            number => write!(f, "refused {number}"),
+        }
     }
-    labelled(stdout, b"refused ", number);
+}
+
+// What is wrong with a line.
+pub fn wrong(stdout: Stdout, line: u64, what: impl fmt::Display + Drop) {
+    let _ = println!(stdout; "line {line}: {what}");
+}
+
+// The address at which a piece was placed, or the refusal. Then the state that the call handed back.
+pub fn placed(stdout: Stdout, done: Allocated) {
+    let Ok(address) = done.answer else {
+        told(stdout, done);
+        return;
+    };
+    let space = done.space;
+    let _ = println!(stdout; "at {address}; end {}; {} entries", space.end, space.count);
+}
+
+pub fn told<T: Copy, E: Refusal>(stdout: Stdout, done: Answered<T, E>) {
+    let space = done.space;
+    let _ = println!(stdout;
+        "{}; end {}; {} entries",
+        Verdict(number_of(done.answer)),
+        space.end,
+        space.count
+    );
 }

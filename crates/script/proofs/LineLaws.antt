@@ -1,65 +1,33 @@
--- Laws of runs of bytes and counted words, in the order of specs/Line.antt: each is one step of a walk over a list, or its end.
---
---   Runs p xs from i   a walk over the run of such bytes that starts at `from` has come to i
---
+-- Laws of runs of bytes and counted words, in the order of specs/Line.antt: where a run ends; and each step of a walk
+-- over a list, or its end.
 -- Then what `every` says of one element.
 -- Not here: laws of `drop` and `get_or` (lib.Seq), of `&&` (pages/proofs/Numbers.antt).
 use Prim.Native.Nat.{ℕ, zero, suc, ◌+◌, ◌<◌, ◌≤◌}
-use mathlib.Core.Bool.{Bool, true, false}
+use mathlib.Core.Bool.{Bool, true, false, not}
 use mathlib.Core.List.{List, [], ◌∷◌}
-use mathlib.Core.Path.{◌≡◌, refl}
+use mathlib.Core.Path.{◌≡◌, sym, ap}
 use native.Mathlib.Numerals.{add-one}
 use native.Mathlib.Omega.{arith}
-use lib.ListN.{length, drop, get_or, drop_of_length-le}
+use lib.ListN.{length, drop, get_or, drop_of_length-le, length-drop}
 use lib.Seq.{drop-cons}
+use borrow.Author.Tests.{not-true, not-false}
 use Rattle.pages.proofs.Numbers.{and_left, and_right}
 use Rattle.script.specs.Line.{run, every, blankb, Ends, starts, words_in}
 
 -- ---- runs
 
-run_next : (p : ℕ → Bool) (xs : List ℕ) (i : ℕ) → i < length xs → p (get_or xs i 0) ≡ true → run p (drop i xs) ≡ suc (run p (drop (i + 1) xs))
+-- where the first byte stands at which `p` fails, or the list ends
+pub run_is : (p : ℕ → Bool) (xs : List ℕ) (r : ℕ) → r ≤ length xs → ((k : ℕ) → k < r → false ≡ not (p (get_or xs k 0)))
+    → (r < length xs → true ≡ not (p (get_or xs r 0))) → r ≡ run p xs
 unfolding run
-run_next p xs i h t = rw (add-one, drop-cons xs i 0 h, t)
+run_is p [] r w b f = omega arith
+run_is p (x ∷ xs) zero w b f = rw (not-true (p x) (sym (f (omega arith))))
+run_is p (x ∷ xs) (suc r) w b f =
+    rw (not-false (p x) (sym (b 0 (omega arith)))) (ap suc (run_is p xs r (omega arith) (λ k h. b (suc k) (omega arith)) (λ h. f (omega arith))))
 
-run_stop : (p : ℕ → Bool) (xs : List ℕ) (i : ℕ) → i < length xs → p (get_or xs i 0) ≡ false → run p (drop i xs) ≡ 0
-unfolding run
-run_stop p xs i h t = rw (drop-cons xs i 0 h, t)
-
-run_end : (p : ℕ → Bool) (xs : List ℕ) (i : ℕ) → length xs ≤ i → run p (drop i xs) ≡ 0
-unfolding run
-run_end p xs i h = rw (drop_of_length-le xs h)
-
-pub record Runs (p : ℕ → Bool) (xs : List ℕ) (from i : ℕ) : Type 0 where
-  pub low : from ≤ i
-  pub within : i ≤ length xs
-  pub same_end : i + run p (drop i xs) ≡ from + run p (drop from xs)
-
-pub runs_start : (p : ℕ → Bool) (xs : List ℕ) (from : ℕ) → from ≤ length xs → Runs p xs from from
-runs_start p xs from h = record { low = omega arith; within = h; same_end = refl }
-
-module _ {p : ℕ → Bool} {xs : List ℕ} {from i : ℕ} (r : Runs p xs from i) where
-  pub runs_next : i < length xs → p (get_or xs i 0) ≡ true → Runs p xs from (i + 1)
-  runs_next h t = record { low = omega arith; within = omega arith; same_end = omega (arith, run_next p xs i h t, r.same_end) }
-
-  pub runs_stop : i < length xs → p (get_or xs i 0) ≡ false → Ends p xs from i
-  runs_stop h t = record { exact = omega (arith, run_stop p xs i h t, r.same_end); low = r.low; within = r.within }
-
-  pub runs_end : length xs ≤ i → Ends p xs from i
-  runs_end h = record { exact = omega (arith, run_end p xs i h, r.same_end); low = r.low; within = r.within }
-
--- ---- all of them
-
-pub every_next : (p : ℕ → Bool) (xs : List ℕ) (i : ℕ) → i < length xs → p (get_or xs i 0) ≡ true → every p (drop i xs) ≡ every p (drop (i + 1) xs)
-unfolding every
-every_next p xs i h t = rw (add-one, drop-cons xs i 0 h, t)
-
-pub every_stop : (p : ℕ → Bool) (xs : List ℕ) (i : ℕ) → i < length xs → p (get_or xs i 0) ≡ false → every p (drop i xs) ≡ false
-unfolding every
-every_stop p xs i h t = rw (drop-cons xs i 0 h, t)
-
-pub every_end : (p : ℕ → Bool) (xs : List ℕ) (i : ℕ) → length xs ≤ i → every p (drop i xs) ≡ true
-unfolding every
-every_end p xs i h = rw (drop_of_length-le xs h)
+pub run_ends : (p : ℕ → Bool) (xs : List ℕ) (from r : ℕ) → from ≤ length xs → r ≤ length (drop from xs) → r ≡ run p (drop from xs)
+    → Ends p xs from (from + r)
+run_ends p xs from r i w e = record { exact = omega (arith, e); low = omega arith; within = omega (arith, length-drop from xs) }
 
 -- ---- words
 
@@ -80,7 +48,6 @@ starts_le false false = omega arith
 -- ---- one of all
 
 pub every_at : (p : ℕ → Bool) (xs : List ℕ) (i : ℕ) → every p xs ≡ true → i < length xs → p (get_or xs i 0) ≡ true
-unfolding every
 every_at p [] i e h = absurd (omega arith)
 every_at p (x ∷ xs) zero e h = and_left (p x) (every p xs) e
 every_at p (x ∷ xs) (suc i) e h = every_at p xs i (and_right (p x) (every p xs) e) (omega arith)

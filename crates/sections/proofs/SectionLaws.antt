@@ -24,7 +24,7 @@ use Rattle.pieces.specs.Words.{entry_at, entries}
 use Rattle.pieces.specs.declared.Class.{Class}
 use Rattle.pieces.specs.declared.Piece.{Piece}
 use Rattle.sections.specs.Sections.{sections, pair_words, pairs, Left, listed_in}
-use Rattle.sections.specs.declared.Listing.TheVariants.{Sections, SliceTooShort}
+use Rattle.std.specs.Prelude.{Some, None}
 
 -- ---- one entry more
 
@@ -168,11 +168,11 @@ module _ (k : Class) (w : List ℕ) (i : ℕ) (x : Piece) (is : x ≡ entry_at w
 
 module _ (k : Class) (w v : List ℕ) (n count : ℕ) (counts : count ≡ length (passed k w n)) where
   pub listed_short : length v < count * pair_words
-      → ◌≡◌ {A = Left} (record { answer = SliceTooShort; words = v }) (listed_in v (passed k w n))
+      → ◌≡◌ {A = Left} (record { answer = None; words = v }) (listed_in v (passed k w n))
   unfolding listed_in
   listed_short h = rw (← counts, lt-ltb (length v) (count * pair_words) h)
 
   pub listed_all : count * pair_words ≤ length v → (t : List ℕ) → t ≡ written k w n v
-      → ◌≡◌ {A = Left} (record { answer = Sections count; words = t }) (listed_in v (passed k w n))
+      → ◌≡◌ {A = Left} (record { answer = Some count; words = t }) (listed_in v (passed k w n))
   unfolding listed_in
   listed_all h t words = rw (words, ← counts, le-ltb (length v) (count * pair_words) h)

@@ -29,7 +29,7 @@ use Rattle.pieces.specs.Words.{entry_words, entries, table, Zeros}
 use Rattle.pieces.specs.declared.Piece.{Piece}
 use Rattle.rules.specs.Between.{lives_with}
 use Rattle.settle.specs.Settle.{if_room, carried_out, SettleFits, CarryFits, Settles}
-use Rattle.settle.specs.declared.Settling.TheVariants.{Ready, TableFull}
+use Rattle.std.specs.Prelude.{Some, None}
 use Rattle.table.proofs.Theorems.{count_fits, sound_table}
 use Rattle.table.specs.Fill.{fill}
 use Rattle.table.specs.Sound.{capacity, Sound}
@@ -37,25 +37,25 @@ use Rattle.table.specs.Sound.{capacity, Sound}
 -- ---- the two outcomes
 
 module _ (w : List ℕ) (plan : Plan) where
-  pub room_full : capacity (length w) < plan.count → if_room w plan ≡ TableFull
+  pub room_full : capacity (length w) < plan.count → if_room w plan ≡ None
   unfolding if_room
   room_full h = rw (lt-ltb (capacity (length w)) plan.count h) refl
 
-  pub room_ready : plan.count ≤ capacity (length w) → if_room w plan ≡ Ready plan
+  pub room_ready : plan.count ≤ capacity (length w) → if_room w plan ≡ Some plan
   unfolding if_room
   room_ready h = rw (le-ltb (capacity (length w)) plan.count h) refl
 
   -- r is what was answered
-  is_ready : {q : Plan} → Ready q ≡ if_room w plan → (q ≡ plan) × (plan.count ≤ capacity (length w))
+  is_ready : {q : Plan} → Some q ≡ if_room w plan → (q ≡ plan) × (plan.count ≤ capacity (length w))
   is_ready {q} e =
       split plan.count (capacity (length w))
-      (λ h. let r : Ready q ≡ Ready plan = e ∙ room_ready h in let q_is : q ≡ plan = cc in (q_is, h))
-      (λ h. let r : Ready q ≡ TableFull = e ∙ room_full h in let z : ◌≡◌ {A = ℕ} 0 1 = cc in absurd (omega arith))
+      (λ h. let r : Some q ≡ Some plan = e ∙ room_ready h in let q_is : q ≡ plan = cc in (q_is, h))
+      (λ h. let r : Some q ≡ None = e ∙ room_full h in let z : ◌≡◌ {A = ℕ} 0 1 = cc in absurd (omega arith))
 
-  is_full : TableFull ≡ if_room w plan → capacity (length w) < plan.count
+  is_full : None ≡ if_room w plan → capacity (length w) < plan.count
   is_full e =
       split plan.count (capacity (length w))
-      (λ h. let r : TableFull ≡ Ready plan = e ∙ room_ready h in let z : ◌≡◌ {A = ℕ} 0 1 = cc in absurd (omega arith))
+      (λ h. let r : None ≡ Some plan = e ∙ room_ready h in let z : ◌≡◌ {A = ℕ} 0 1 = cc in absurd (omega arith))
       (λ h. h)
 
 -- ---- a sound table lets a plan be made
@@ -79,10 +79,10 @@ plan_fits f low high =
 
 -- of a plan for the live pieces ps
 module _ {P n : ℕ} {w : List ℕ} {ps : List Piece} {plan : Plan} (p : Planned P n w ps plan) where
-  settles : {q : Plan} → Ready q ≡ if_room w plan → Settles P n w ps q
+  settles : {q : Plan} → Some q ≡ if_room w plan → Settles P n w ps q
   settles e = let r = is_ready w plan e in record { planned = rw r.0 p; room = rw r.0 r.1 }
 
-  too_many : TableFull ≡ if_room w plan → capacity (length w) < length (fill P ps)
+  too_many : None ≡ if_room w plan → capacity (length w) < length (fill P ps)
   too_many e = omega (arith, is_full w plan e, p.count)
 
 -- of the plans that are made
@@ -90,20 +90,20 @@ module _ {P E n i j : ℕ} {w : List ℕ} (f : SettleFits P E n i j w) where
   without_right : Planned P n w (lives_with w n i j []) (plan_without P E n i j w)
   without_right = planned_without (plan_fits f f.low f.high)
 
-  pub ready_without : {plan : Plan} → Ready plan ≡ if_room w (plan_without P E n i j w) → Settles P n w (lives_with w n i j []) plan
+  pub ready_without : {plan : Plan} → Some plan ≡ if_room w (plan_without P E n i j w) → Settles P n w (lives_with w n i j []) plan
   ready_without e = settles without_right e
 
-  pub full_without : TableFull ≡ if_room w (plan_without P E n i j w) → capacity (length w) < length (fill P (lives_with w n i j []))
+  pub full_without : None ≡ if_room w (plan_without P E n i j w) → capacity (length w) < length (fill P (lives_with w n i j []))
   full_without e = too_many without_right e
 
   module _ (x : Piece) where
     with_right : Planned P n w (lives_with w n i j (x ∷ [])) (plan_with P E n i j w x)
     with_right = planned_with (plan_fits f f.low f.high) x
 
-    pub ready_with : {plan : Plan} → Ready plan ≡ if_room w (plan_with P E n i j w x) → Settles P n w (lives_with w n i j (x ∷ [])) plan
+    pub ready_with : {plan : Plan} → Some plan ≡ if_room w (plan_with P E n i j w x) → Settles P n w (lives_with w n i j (x ∷ [])) plan
     ready_with e = settles with_right e
 
-    pub full_with : TableFull ≡ if_room w (plan_with P E n i j w x) → capacity (length w) < length (fill P (lives_with w n i j (x ∷ [])))
+    pub full_with : None ≡ if_room w (plan_with P E n i j w x) → capacity (length w) < length (fill P (lives_with w n i j (x ∷ [])))
     full_with e = too_many with_right e
 
 -- ---- a plan that is carried out

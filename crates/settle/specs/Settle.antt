@@ -1,24 +1,22 @@
 -- How an accepted change ends: a plan with room for its entries, and what carrying it out leaves.
 --
---   if_room w plan         the plan, if the words w have room for its entries; else the table is full
+--   if_room w plan         the plan, if the words w have room for its entries; or none, as the table is full
 --   carried_out n w plan   the words w, of n entries, with the plan carried out
 --   SettleFits P E n i j w what a plan asks: the n entries of w are those of a sound table, and i up to j a part of them
 --   CarryFits n w plan     what carrying out asks: the plan is one for a sound table of n entries, and the table has room
 --   Settles P n w ps plan  the plan is one for the live pieces ps, and the table has room for them
 --
 -- Assumes nothing. That the plans are for the new live pieces, and that carrying out leaves their table, is said in proofs/SettleLaws.antt.
-use Rattle.std.specs.Prelude.{◌≡◌, cond, List, ℕ, ◌+◌, ◌-◌, ◌≤◌, ltb, length}
+use Rattle.std.specs.Prelude.{◌≡◌, cond, List, ℕ, ◌+◌, ◌-◌, ◌≤◌, ltb, length, Option, Some, None}
 use Rattle.change.specs.Change.{Planned}
 use Rattle.change.specs.declared.plan.Plan.{Plan}
 use Rattle.edit.specs.Edit.{spliced}
 use Rattle.edit.specs.New.{new_entries}
 use Rattle.pieces.specs.declared.Piece.{Piece}
-use Rattle.settle.specs.declared.Settling.{Settling}
-use Rattle.settle.specs.declared.Settling.TheVariants.{Ready, TableFull}
 use Rattle.table.specs.Sound.{capacity, Sound}
 
-unfoldable pub if_room : List ℕ → Plan → Settling
-if_room w plan = cond (ltb (capacity (length w)) plan.count) TableFull (Ready plan)
+unfoldable pub if_room : List ℕ → Plan → Option Plan
+if_room w plan = cond (ltb (capacity (length w)) plan.count) None (Some plan)
 
 abbrev pub carried_out : ℕ → List ℕ → Plan → List ℕ
 carried_out n w plan = spliced w n plan.from plan.to (new_entries plan.new)

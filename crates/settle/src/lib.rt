@@ -9,25 +9,18 @@ ghost use Rattle.settle.specs.Settle.{if_room, SettleFits, CarryFits, carried_ou
 use change::plan::Plan;
 use pieces::{ENTRY_WORDS, Piece};
 
-// A plan that the table has room for, or too little room.
-#[derive(Clone, Copy)]
-pub enum Settling {
-    Ready(Plan),
-    TableFull,
-}
-
 // The plan, if the table has room for its entries.
-fn if_room(plan: Plan, table: &[u64]) -> Settling
+fn if_room(plan: Plan, table: &[u64]) -> Option<Plan>
     ensures { result ≡ if_room table.now plan }
 {
     if table.len() / ENTRY_WORDS < plan.count {
-        return Settling::TableFull;
+        return None;
     }
-    Settling::Ready(plan)
+    Some(plan)
 }
 
 // Without the live pieces among the entries from i up to j.
-pub fn without(p: u64, end: u64, n: usize, i: usize, j: usize, table: &[u64]) -> Settling
+pub fn without(p: u64, end: u64, n: usize, i: usize, j: usize, table: &[u64]) -> Option<Plan>
     requires { SettleFits p end n i j table.now }
     ensures { result ≡ if_room table.now (plan_without p end n i j table.now) }
 {
@@ -36,7 +29,15 @@ pub fn without(p: u64, end: u64, n: usize, i: usize, j: usize, table: &[u64]) ->
 }
 
 // With this live piece in place of those among the entries from i up to j.
-pub fn with(p: u64, end: u64, n: usize, i: usize, j: usize, piece: Piece, table: &[u64]) -> Settling
+pub fn with(
+    p: u64,
+    end: u64,
+    n: usize,
+    i: usize,
+    j: usize,
+    piece: Piece,
+    table: &[u64],
+) -> Option<Plan>
     requires { SettleFits p end n i j table.now × (behind piece + p ≤ 2 ^ 64) }
     ensures { result ≡ if_room table.now (plan_with p end n i j table.now piece) }
 {

@@ -1,2 +1,2 @@
--- Laws that the proofs of the test programs' library share.
-mod WordLaws
+-- Laws of the definitions that the contracts of the test programs' library cite.
+mod Laws

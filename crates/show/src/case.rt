@@ -5,32 +5,18 @@ ghost use Rattle.show.specs.Claims.{counted, Tells};
 ghost use Rattle.show.specs.Scenes.{SameScene, asked_of, RefusedAs};
 
 use crate::answer::Answer;
-use crate::claim::Tally;
+use crate::claim::{Tally, say_claim};
 use crate::scene::Scene;
-use crate::text::{say, say_number};
-use crate::{answer, claim, scene, words};
+use crate::text::say;
+use crate::{scene, words};
 use call::Call;
 use std::io::Stdout;
-
-fn say_answer_and_end(stdout: Stdout, a: Answer, end: u64) {
-    answer::say_answer(stdout, a);
-    say(stdout, b" and E = ");
-    say_number(stdout, end);
-}
-
-fn say_answers_and_ends(stdout: Stdout, expected: Answer, end: u64, found: Answer, found_end: u64) {
-    say_answer_and_end(stdout, expected, end);
-    say(stdout, b", found ");
-    say_answer_and_end(stdout, found, found_end);
-    say(stdout, b"\n");
-}
 
 // That the call has this answer, and leaves the file with this end.
 pub fn answers(
     stdout: Stdout,
     t: Tally,
-    text: &[u8],
-    k: u64,
+    claim: &[u8],
     before: Scene,
     call: Call,
     expected: Answer,
@@ -40,30 +26,27 @@ pub fn answers(
 {
     let asked = scene::ask(before, call);
     let found = asked.answer;
-    let left = asked.scene;
-    let state = left.space;
-    let held = answer::same_answer(expected, found) && state.end == end;
-    claim::say_claim(stdout, held, text, k);
+    let found_end = asked.scene.space.end;
+    let held = expected == found && found_end == end;
+    say_claim(stdout, held, claim);
     if !held {
-        say_answers_and_ends(stdout, expected, end, found, state.end);
+        let _ = println!(stdout; "{expected} and E = {end}, found {found} and E = {found_end}");
     }
     t.count(held)
 }
 
 // What differs between two scenes.
 fn say_difference(stdout: Stdout, expected: Scene, found: Scene) {
-    let old = expected.words;
-    let new = found.words;
     say(stdout, b"that state and every such word, found others; ");
-    words::say_difference(stdout, &old, &new);
+    words::say_difference(stdout, &expected.words, &found.words);
 }
 
 // That two scenes have the same words and the same state.
-pub fn same(stdout: Stdout, t: Tally, text: &[u8], k: u64, expected: Scene, found: Scene) -> Tally
+pub fn same(stdout: Stdout, t: Tally, claim: &[u8], expected: Scene, found: Scene) -> Tally
     ensures { (h : Bool) → Tells h (SameScene expected found) → result ≡ counted t h }
 {
     let held = scene::same_scene(expected, found);
-    claim::say_claim(stdout, held, text, k);
+    say_claim(stdout, held, claim);
     if !held {
         say_difference(stdout, expected, found);
     }
@@ -74,8 +57,7 @@ pub fn same(stdout: Stdout, t: Tally, text: &[u8], k: u64, expected: Scene, foun
 pub fn refuses(
     stdout: Stdout,
     t: Tally,
-    text: &[u8],
-    k: u64,
+    claim: &[u8],
     before: Scene,
     call: Call,
     number: u64,
@@ -85,9 +67,8 @@ pub fn refuses(
     let asked = scene::ask(before, call);
     let found = asked.answer;
     let expected = Answer::Refused(number);
-    if !answer::same_answer(expected, found) {
-        return t.answer(stdout, text, k, expected, found);
+    if expected != found {
+        return t.equal(stdout, claim, expected, found);
     }
-    let left = asked.scene;
-    same(stdout, t, text, k, before, left)
+    same(stdout, t, claim, before, asked.scene)
 }

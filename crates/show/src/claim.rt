@@ -1,12 +1,10 @@
-// Claims, each a sentence: a line of a text that has the claims of a group, named by its number there. One that holds prints `ok   CLAIM`;
-// another prints `FAIL CLAIM: expected X, found Y`. They are counted.
-ghost use Rattle.std.specs.Prelude.{◌≡◌, Bool, true, false, eqb};
-ghost use Rattle.show.specs.Answers.{sameb};
+// Claims, each a sentence. One that holds prints `ok   CLAIM`; another prints `FAIL CLAIM: expected X, found Y`. They are counted.
+ghost use Rattle.std.specs.Prelude.{◌≡◌, Bool, true, false};
 ghost use Rattle.show.specs.Claims.{one_more, no_claims, counted, Tells};
 
-use crate::answer::Answer;
-use crate::text::{say, say_nth, say_number};
-use crate::{answer, words};
+use crate::text::say;
+use crate::words;
+use std::fmt;
 use std::io::Stdout;
 
 #[derive(Clone, Copy)]
@@ -15,43 +13,23 @@ pub struct Tally {
     pub failures: u64,
 }
 
-const LARGEST: u64 = 18446744073709551615;
-
 // One more, up to the largest number.
 pub fn one_more(n: u64) -> u64
     ensures { result ≡ one_more n }
 {
-    if n < LARGEST {
-        return n + 1;
-    }
-    n
+    n.saturating_add(1)
 }
 
 // How the line of a claim begins.
 pub fn say_verdict(stdout: Stdout, held: bool) {
-    if held {
-        say(stdout, b"ok   ");
-        return;
-    }
-    say(stdout, b"FAIL ");
+    say(stdout, if held { b"ok   " } else { b"FAIL " });
 }
 
-// Claim k of a text: the whole line where it holds, else up to what was expected.
-pub fn say_claim(stdout: Stdout, held: bool, text: &[u8], k: u64) {
+// The claim: the whole line where it holds, else up to what was expected.
+pub fn say_claim(stdout: Stdout, held: bool, claim: &[u8]) {
     say_verdict(stdout, held);
-    say_nth(stdout, text, k);
-    if held {
-        say(stdout, b"\n");
-        return;
-    }
-    say(stdout, b": expected ");
-}
-
-fn say_numbers(stdout: Stdout, expected: u64, found: u64) {
-    say_number(stdout, expected);
-    say(stdout, b", found ");
-    say_number(stdout, found);
-    say(stdout, b"\n");
+    say(stdout, claim);
+    say(stdout, if held { b"\n" } else { b": expected " });
 }
 
 impl Tally {
@@ -91,50 +69,30 @@ impl Tally {
         self.failed()
     }
 
-    // That a number is this one.
-    pub fn number(self, stdout: Stdout, text: &[u8], k: u64, expected: u64, found: u64) -> Tally
-        ensures { result ≡ counted self (eqb expected found) }
-    {
-        let held = expected == found;
-        say_claim(stdout, held, text, k);
-        if !held {
-            say_numbers(stdout, expected, found);
-        }
-        self.count(held)
-    }
-
-    // That an answer is this one.
-    pub fn answer(
+    // That a number, or an answer, is this one.
+    pub fn equal<T: PartialEq + fmt::Display + Copy>(
         self,
         stdout: Stdout,
-        text: &[u8],
-        k: u64,
-        expected: Answer,
-        found: Answer,
+        claim: &[u8],
+        expected: T,
+        found: T,
     ) -> Tally
-        ensures { result ≡ counted self (sameb expected found) }
+        ensures { result ≡ counted self (T.eq expected found) }
     {
-        let held = answer::same_answer(expected, found);
-        say_claim(stdout, held, text, k);
+        let held = expected == found;
+        say_claim(stdout, held, claim);
         if !held {
-            answer::say_answers(stdout, expected, found);
+            let _ = println!(stdout; "{expected}, found {found}");
         }
         self.count(held)
     }
 
     // That the words are these.
-    pub fn words(
-        self,
-        stdout: Stdout,
-        text: &[u8],
-        k: u64,
-        expected: &[u64],
-        found: &[u64],
-    ) -> Tally
+    pub fn words(self, stdout: Stdout, claim: &[u8], expected: &[u64], found: &[u64]) -> Tally
         ensures { (h : Bool) → Tells h (expected.now ≡ found.now) → result ≡ counted self h }
     {
-        let held = words::same_words(expected, found);
-        say_claim(stdout, held, text, k);
+        let held = expected == found;
+        say_claim(stdout, held, claim);
         if !held {
             words::say_difference(stdout, expected, found);
         }
@@ -144,10 +102,6 @@ impl Tally {
     // The last line of a program.
     pub fn report(self, stdout: Stdout, program: &[u8]) {
         say(stdout, program);
-        say(stdout, b": ");
-        say_number(stdout, self.claims);
-        say(stdout, b" claims, ");
-        say_number(stdout, self.failures);
-        say(stdout, b" failures\n");
+        let _ = println!(stdout; ": {} claims, {} failures", self.claims, self.failures);
     }
 }

@@ -8,5 +8,6 @@ pub mod claim;
 pub mod document;
 pub mod entry;
 pub mod scene;
+pub mod spoken;
 pub mod text;
 pub mod words;

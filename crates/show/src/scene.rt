@@ -5,12 +5,11 @@ ghost use Rattle.show.specs.Claims.{Tells};
 ghost use Rattle.show.specs.Scenes.{scene_words, part_of, blank_words, with_entry, SameScene, told_as, accepted_as, left_by, asked_of, opened_as, opened_by_default};
 
 use crate::answer::Answer;
-use crate::text::{say, say_nth, say_number};
-use crate::{answer, entry, words};
+use crate::{answer, entry};
 use call::Call;
 use pieces::{ENTRY_WORDS, Piece};
 use space::Space;
-use space::answers::open_number;
+use space::answers::number_of;
 use std::io::Stdout;
 
 pub const ENTRIES: usize = 32;
@@ -69,15 +68,13 @@ pub fn open(page: u64, limit: u64, len: usize) -> Asked
     let mut words = blank();
     let lent = part(len);
     let done = Space::open(page, limit, &mut words[..lent]);
-    let now = done.space;
-    let said = done.answer;
     Asked {
         scene: Scene {
-            space: now,
+            space: done.space,
             words,
             len,
         },
-        answer: answer::of_number(open_number(said), Answer::Done),
+        answer: answer::of_number(number_of(done.answer), Answer::Done),
     }
 }
 
@@ -87,15 +84,13 @@ pub fn open_default() -> Asked
 {
     let mut words = blank();
     let done = Space::open_default(&mut words);
-    let now = done.space;
-    let said = done.answer;
     Asked {
         scene: Scene {
-            space: now,
+            space: done.space,
             words,
             len: WORDS,
         },
-        answer: answer::of_number(open_number(said), Answer::Done),
+        answer: answer::of_number(number_of(done.answer), Answer::Done),
     }
 }
 
@@ -105,9 +100,7 @@ fn accepted(call: Call, answer: u64) -> Answer
 {
     match call {
         Call::Allocate(_, _) => Answer::At(answer),
-        Call::Release(_, _) => Answer::Done,
-        Call::Extend(_, _, _) => Answer::Done,
-        Call::Shorten(_, _, _) => Answer::Done,
+        Call::Release(_, _) | Call::Extend(_, _, _) | Call::Shorten(_, _, _) => Answer::Done,
     }
 }
 
@@ -115,10 +108,9 @@ fn tell(space: Space, table: &mut [u64], call: Call) -> Told
     ensures { told_as result table.new ≡ left_by call space table.old }
 {
     let told = call::tell(space, table, call);
-    let now = told.space;
     let done = accepted(call, told.answer);
     Told {
-        space: now,
+        space: told.space,
         answer: answer::of_number(told.number, done),
     }
 }
@@ -128,10 +120,7 @@ pub fn part(len: usize) -> usize
     ensures within { result ≤ scene_words }
     ensures is { result ≡ part_of len }
 {
-    if WORDS < len {
-        return WORDS;
-    }
-    len
+    len.min(WORDS)
 }
 
 // The call, on the lent table.
@@ -140,17 +129,14 @@ pub fn ask(scene: Scene, call: Call) -> Asked
 {
     let mut words = scene.words;
     let len = part(scene.len);
-    let state = scene.space;
-    let told = tell(state, &mut words[..len], call);
-    let now = told.space;
-    let said = told.answer;
+    let told = tell(scene.space, &mut words[..len], call);
     Asked {
         scene: Scene {
-            space: now,
+            space: told.space,
             words,
             len: scene.len,
         },
-        answer: said,
+        answer: told.answer,
     }
 }
 
@@ -158,79 +144,17 @@ pub fn ask(scene: Scene, call: Call) -> Asked
 pub fn after(scene: Scene, call: Call) -> Scene
     ensures { result ≡ (asked_of scene call).scene }
 {
-    let asked = ask(scene, call);
-    let left = asked.scene;
-    left
-}
-
-pub fn same_state(a: Space, other: Space) -> bool
-    ensures { Tells result (a ≡ other) }
-{
-    if a.page != other.page {
-        return false;
-    }
-    if a.limit != other.limit {
-        return false;
-    }
-    if a.end != other.end {
-        return false;
-    }
-    a.count == other.count
+    ask(scene, call).scene
 }
 
 // Whether two scenes have the same words and the same state.
 pub fn same_scene(a: Scene, other: Scene) -> bool
     ensures { Tells result (SameScene a other) }
 {
-    let old = a.words;
-    let new = other.words;
-    if !words::same_words(&old, &new) {
-        return false;
-    }
-    let given = a.space;
-    let returned = other.space;
-    same_state(given, returned)
+    a.words == other.words && a.space == other.space
 }
 
 // The table, an entry to a line.
 pub fn say_entries(stdout: Stdout, scene: Scene) {
-    let words = scene.words;
-    let state = scene.space;
-    entry::say_table(stdout, &words, state.count);
-}
-
-// Release, extend or shorten, and the piece.
-fn say_piece(stdout: Stdout, verb: u64, address: u64, size: u64) {
-    say_nth(stdout, b"release \nextend \nshorten ", verb);
-    say_number(stdout, address);
-    say(stdout, b" size ");
-    say_number(stdout, size);
-}
-
-fn say_change(stdout: Stdout, verb: u64, address: u64, size: u64, by: u64) {
-    say_piece(stdout, verb, address, size);
-    say(stdout, b" by ");
-    say_number(stdout, by);
-}
-
-// The line of a type, or of an unknown one.
-fn named(code: u64) -> u64 {
-    if code <= 2 {
-        return code;
-    }
-    0
-}
-
-fn say_request(stdout: Stdout, code: u64, size: u64) {
-    say_nth(stdout, b"unknown type \nmetadata \nraw ", named(code));
-    say_number(stdout, size);
-}
-
-pub fn say_call(stdout: Stdout, call: Call) {
-    match call {
-        Call::Allocate(code, size) => say_request(stdout, code, size),
-        Call::Release(address, size) => say_piece(stdout, 0, address, size),
-        Call::Extend(address, size, by) => say_change(stdout, 1, address, size, by),
-        Call::Shorten(address, size, by) => say_change(stdout, 2, address, size, by),
-    }
+    entry::say_table(stdout, &scene.words, scene.space.count);
 }

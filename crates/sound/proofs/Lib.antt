@@ -1,4 +1,3 @@
 -- The laws that the proofs of this crate cite.
 pub mod WalkLaws
-pub mod PartLaws
 pub mod ZeroLaws

@@ -25,7 +25,7 @@ use Rattle.pieces.specs.declared.Status.{Status}
 use Rattle.table.specs.Local.{entryb, noneb, chainb, kindsb}
 use Rattle.walk.proofs.StateLaws.{state_most, step_entry, step_grows, went, broke}
 use Rattle.walk.specs.Walk.{walk_at, Walked, stepb, stepped, WalkFits}
-use Rattle.walk.specs.declared.Step.TheVariants.{On, Broken}
+use Rattle.std.specs.Prelude.{Some, None}
 use Rattle.walk.specs.declared.Walk.{Walk}
 
 -- ---- what is left to test
@@ -131,7 +131,7 @@ module _ {P E n : ℕ} {w : List ℕ} (ranges : WalkFits P E n w) {v : Walk} {i 
   standing_end h = sym (rest_end P E w n i s a h) ∙ stands.same
 
   module _ (h : i < n) (u : Words) (is : u ≡ words_at w i) where
-    pub standing_on : (next : Walk) → stepped P E v u (eqb (i + 1) n) ≡ On next → Standing P E n w next (i + 1)
+    pub standing_on : (next : Walk) → stepped P E v u (eqb (i + 1) n) ≡ Some next → Standing P E n w next (i + 1)
     unfolding status_before
     standing_on next e =
         let pos = page_pos ranges.page in
@@ -146,7 +146,7 @@ module _ {P E n : ℕ} {w : List ℕ} (ranges : WalkFits P E n w) {v : Walk} {i 
           same = rw (at, ← status) (sym (rest_on P E w n i s a u is h pos g.holds) ∙ stands.same);
         }
 
-    pub standing_broken : stepped P E v u (eqb (i + 1) n) ≡ Broken → entriesb P E n w ≡ false
+    pub standing_broken : stepped P E v u (eqb (i + 1) n) ≡ None → entriesb P E n w ≡ false
     standing_broken e =
         let pos = page_pos ranges.page in
         let b = broke P pos E s a u (eqb (i + 1) n) (ap (λ (t : Walk). stepped P E t u (eqb (i + 1) n)) (sym stands.carried) ∙ e) in

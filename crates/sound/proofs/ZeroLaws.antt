@@ -1,18 +1,18 @@
 -- Laws of the words behind the entries: that all are 0 is said by the or of their bits, and block by block.
 --
--- In this order: an or of bits; one word more; one block more.
+-- In this order: an or of bits, and of those of many words; one block more; the blocks, up to the last whole one.
 --
 -- Assumes nothing.
-use Prim.Native.Nat.{ℕ, suc, ◌+◌, ◌-◌, ◌≤◌, ◌<◌}
+use Prim.Native.Nat.{ℕ, ◌+◌, ◌-◌, ◌*◌, ◌%◌, ◌≤◌, ◌<◌}
 use mathlib.Core.Bool.{Bool, true, false, ◌&&◌, and-true, and_assoc}
 use mathlib.Core.List.{List, [], ◌∷◌, ◌++◌}
 use mathlib.Core.Path.{◌≡◌, refl, sym, ap, ◌∙◌}
-use native.Mathlib.Numerals.{add-one}
 use native.Mathlib.Omega.{arith}
+use Rattle.std.specs.Prelude.{fold}
 use lib.Bits.{bit_or, or_zero_l, or_add_and, and_le_r}
 use lib.Dec.{eqb}
-use lib.ListN.{length, get_or, take, drop, take-append-drop, drop_of_length-le}
-use lib.Seq.{drop-cons, drop-drop}
+use lib.ListN.{length, drop, length-append, length-drop}
+use lib.Seq.{drop_at, drop-drop}
 use borrow.Author.Tests.{eqb-true, eqb-false, eq-eqb, ne_eqb}
 use Rattle.table.specs.Local.{zerosb}
 
@@ -26,36 +26,14 @@ or_none a b = go (eqb a 0) refl
     go true e = ap (λ (v : ℕ). eqb v 0) (ap (λ (v : ℕ). bit_or v b) (eqb-true a 0 e) ∙ or_zero_l b)
     go false e = ne_eqb (bit_or a b) 0 (λ z. eqb-false a 0 e (omega (arith, or_add_and a b, and_le_r a b)))
 
--- ---- one word more: the bits of the words before it, and what is still to be tested from it on
-
-word_next : (v : List ℕ) (x bits : ℕ) → (eqb (bit_or bits x) 0 && zerosb v) ≡ (eqb bits 0 && zerosb (x ∷ v))
+-- the bits of some words, gathered from others' on
+bits_from : (bits : ℕ) (w : List ℕ) → eqb (fold bit_or bits w) 0 ≡ (eqb bits 0 && zerosb w)
 unfolding zerosb
-word_next v x bits = rw (or_none bits x) (and_assoc (eqb bits 0) (eqb x 0) (zerosb v))
+bits_from bits [] = sym (and-true (eqb bits 0))
+bits_from bits (x ∷ w) = bits_from (bit_or bits x) w ∙ (rw (or_none bits x) (and_assoc (eqb bits 0) (eqb x 0) (zerosb w)))
 
-none_left : (bits : ℕ) (v : List ℕ) → v ≡ [] → (eqb bits 0 && zerosb v) ≡ eqb bits 0
-unfolding zerosb
-none_left bits v e = rw e (and-true (eqb bits 0))
-
-pub rest_next : (w : List ℕ) (i bits : ℕ) → i < length w
-    → (eqb (bit_or bits (get_or w i 0)) 0 && zerosb (drop (i + 1) w)) ≡ (eqb bits 0 && zerosb (drop i w))
-rest_next w i bits lt = rw (add-one, drop-cons w i 0 lt) (word_next (drop (suc i) w) (get_or w i 0) bits)
-
-pub rest_end : (w : List ℕ) (i bits : ℕ) → length w ≤ i → (eqb bits 0 && zerosb (drop i w)) ≡ eqb bits 0
-rest_end w i bits le = none_left bits (drop i w) (drop_of_length-le w {i = i} le)
-
--- of the block of b words from `from` on, what is still to be tested from word j on
-abbrev pub block_from : ℕ → List ℕ → ℕ → ℕ → List ℕ
-block_from b w from j = take (b - j) (drop (from + j) w)
-
-pub block_next : (b : ℕ) (w : List ℕ) (from j bits : ℕ) → j < b → from + j < length w
-    → (eqb (bit_or bits (get_or w (from + j) 0)) 0 && zerosb (block_from b w from (j + 1))) ≡ (eqb bits 0 && zerosb (block_from b w from j))
-block_next b w from j bits lt within =
-    let e : b - j ≡ suc (b - (j + 1)) = omega arith in
-    let f : from + (j + 1) ≡ suc (from + j) = omega arith in
-    rw (e, f, drop-cons w (from + j) 0 within) (word_next (take (b - (j + 1)) (drop (suc (from + j)) w)) (get_or w (from + j) 0) bits)
-
-pub block_end : (b : ℕ) (w : List ℕ) (from j bits : ℕ) → b ≤ j → (eqb bits 0 && zerosb (block_from b w from j)) ≡ eqb bits 0
-block_end b w from j bits le = let e : b - j ≡ 0 = omega arith in none_left bits (block_from b w from j) (rw e)
+pub bits_none : (w : List ℕ) → eqb (fold bit_or 0 w) 0 ≡ zerosb w
+bits_none w = bits_from 0 w
 
 -- ---- one block more
 
@@ -64,14 +42,40 @@ unfolding zerosb
 zeros_append [] w = refl
 zeros_append (x ∷ v) w = rw (zeros_append v w) (sym (and_assoc (eqb x 0) (zerosb v) (zerosb w)))
 
-zeros_split : (b : ℕ) (w : List ℕ) (i : ℕ) → zerosb (drop i w) ≡ (zerosb (take b (drop i w)) && zerosb (drop (i + b) w))
-zeros_split b w i =
-    ap zerosb (sym (take-append-drop b (drop i w)))
-    ∙ (zeros_append (take b (drop i w)) (drop b (drop i w)) ∙ rw (drop-drop b i w))
+module _ (v w : List ℕ) (bits : ℕ) (is : eqb bits 0 ≡ zerosb v) where
+  pub zeros_on : bits ≡ 0 → zerosb (v ++ w) ≡ zerosb w
+  zeros_on e = zeros_append v w ∙ rw (sym is ∙ eq-eqb bits 0 e)
 
-module _ (b : ℕ) (w : List ℕ) (i bits : ℕ) (is : eqb bits 0 ≡ zerosb (take b (drop i w))) where
-  pub zeros_on : bits ≡ 0 → zerosb (drop i w) ≡ zerosb (drop (i + b) w)
-  zeros_on e = zeros_split b w i ∙ rw (sym is ∙ eq-eqb bits 0 e)
+  pub zeros_stop : (bits ≡ 0 → ⊥) → zerosb (v ++ w) ≡ false
+  zeros_stop n = zeros_append v w ∙ rw (sym is ∙ ne_eqb bits 0 n)
 
-  pub zeros_stop : (bits ≡ 0 → ⊥) → zerosb (drop i w) ≡ false
-  zeros_stop n = zeros_split b w i ∙ rw (sym is ∙ ne_eqb bits 0 n)
+-- of the words w those from some block of b words on are left
+pub record Blocks (b : ℕ) (w left : List ℕ) : Type 0 where
+  pub seen : ℕ
+  pub within : seen * b ≤ length w
+  pub left_is : left ≡ drop (seen * b) w
+  pub same : zerosb left ≡ zerosb w
+
+pub blocks_none : (b : ℕ) (w : List ℕ) → Blocks b w w
+blocks_none b w = let e : 0 * b ≡ 0 = omega arith in record { seen = 0; within = omega arith; left_is = rw e; same = refl }
+
+pub blocks_more : (b : ℕ) (w left v more : List ℕ) → Blocks b w left → left ≡ v ++ more → length v ≡ b → zerosb left ≡ zerosb more → Blocks b w more
+blocks_more b w left v more h is size same =
+    let long : length left ≡ length v + length more = ap length is ∙ length-append v more in
+    let was : length left ≡ length w - h.seen * b = ap length h.left_is ∙ length-drop (h.seen * b) w in
+    let step : more ≡ drop b left = sym (ap (drop b) is ∙ drop_at v more b size) in
+    let e : (h.seen + 1) * b ≡ h.seen * b + b = omega arith in
+    record {
+      seen = h.seen + 1;
+      within = omega arith;
+      left_is = step ∙ (ap (drop b) h.left_is ∙ (drop-drop b (h.seen * b) w ∙ ap (λ (k : ℕ). drop k w) (sym e)));
+      same = sym same ∙ h.same;
+    }
+
+-- where no whole block is left, those left are what no block has
+pub blocks_end : (w left : List ℕ) → Blocks 144 w left → length left < 144 → zerosb (drop (length w - length w % 144) w) ≡ zerosb w
+blocks_end w left h few =
+    let long : length left ≡ length w - h.seen * 144 = ap length h.left_is ∙ length-drop (h.seen * 144) w in
+    let within : h.seen * 144 ≤ length w = h.within in
+    let e : length w - length w % 144 ≡ h.seen * 144 = omega arith in
+    rw e (ap zerosb (sym h.left_is) ∙ h.same)

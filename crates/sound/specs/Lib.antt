@@ -1,2 +1,1 @@
 -- What the contracts of `sound` cite beside the specs of `table` and `walk`.
-pub mod Zeros

@@ -7,7 +7,6 @@ ghost use Rattle.std.specs.Prelude.{◌≡◌, ◌+◌, ◌≤◌, ◌&&◌, eqb
 ghost use Rattle.pieces.specs.declared.Class.TheVariants.{Large};
 ghost use Rattle.pieces.specs.declared.Status.TheVariants.{Live};
 ghost use Rattle.pieces.specs.Words.{entries};
-ghost use Rattle.sound.specs.Zeros.{zero_block};
 ghost use Rattle.table.specs.Local.{table_lengthb, rangesb, kindsb, zerosb, chainb, localb};
 ghost use Rattle.walk.specs.Walk.{WalkFits};
 
@@ -19,45 +18,32 @@ pub const LEAST_CAPACITY: usize = 4;
 
 pub const LARGEST_CAPACITY: usize = 1024;
 
+const LEAST_LENGTH: usize = LEAST_CAPACITY * ENTRY_WORDS;
+
+const LARGEST_LENGTH: usize = LARGEST_CAPACITY * ENTRY_WORDS;
+
 // The words behind the entries are looked at by blocks: the compiler makes vectors of a loop that has a fixed number of turns and leaves at its end.
 const BLOCK: usize = 48 * ENTRY_WORDS;
 
 // Whether a lent slice may have so many words.
+#[tactic(auto, unfolding(table::specs::Local::table_lengthb))]
 pub fn is_table_length(len: usize) -> bool
     ensures { result ≡ table_lengthb len }
 {
-    if len % ENTRY_WORDS != 0 {
-        return false;
-    }
-    if len < LEAST_CAPACITY * ENTRY_WORDS {
-        return false;
-    }
-    len <= LARGEST_CAPACITY * ENTRY_WORDS
+    len % ENTRY_WORDS == 0 && (LEAST_LENGTH..=LARGEST_LENGTH).contains(&len)
 }
 
 // The ranges of the state, and of the slice's length.
+#[tactic(auto, unfolding(table::specs::Local::rangesb))]
 pub fn in_ranges(page: u64, limit: u64, end: u64, count: u64, len: usize) -> bool
     ensures { result ≡ rangesb page limit end count len }
 {
-    if !pages::is_page_size(page) {
-        return false;
-    }
-    if limit < page {
-        return false;
-    }
-    if LARGEST_LIMIT < limit {
-        return false;
-    }
-    if !pages::is_border(page, end) {
-        return false;
-    }
-    if limit < end {
-        return false;
-    }
-    if !is_table_length(len) {
-        return false;
-    }
-    count <= (len / ENTRY_WORDS) as u64
+    pages::is_page_size(page)
+        && (page..=LARGEST_LIMIT).contains(&limit)
+        && pages::is_border(page, end)
+        && end <= limit
+        && is_table_length(len)
+        && count <= (len / ENTRY_WORDS) as u64
 }
 
 // The entries: every kind is one, each entry keeps the rules behind the one before it, and the last ends at the end.
@@ -66,43 +52,21 @@ pub fn entries_hold(page: u64, end: u64, n: usize, table: &[u64]) -> bool
     ensures { result ≡ (kindsb table.now 0 n && chainb page end (Live Large) 0 (entries table.now 0 n)) }
 {
     let mut walk = walk::start(page);
-    let mut i: usize = 0;
-    while i < n {
+    for i in 0..n {
         let entry = pieces::words_at(table, i);
-        let walk::Step::On(next) = walk::advance(page, end, walk, entry, i + 1 == n) else {
+        let Some(next) = walk::advance(page, end, walk, entry, i + 1 == n) else {
             return false;
         };
         walk = next;
-        i = i + 1;
     }
     walk.at == end
 }
 
-// The bits that any word of the block from `from` on has.
-fn block_bits(from: usize, table: &[u64]) -> u64
-    requires { from + zero_block ≤ length table.now }
-    ensures { eqb result 0 ≡ zerosb (take zero_block (drop from table.now)) }
+// The bits that any of the words has.
+fn bits_of(words: &[u64]) -> u64
+    ensures { eqb result 0 ≡ zerosb words.now }
 {
-    let mut bits: u64 = 0;
-    let mut j: usize = 0;
-    while j < BLOCK {
-        bits = bits | table[from + j];
-        j = j + 1;
-    }
-    bits
-}
-
-// The bits that any word from `from` on has.
-fn rest_bits(from: usize, table: &[u64]) -> u64
-    ensures { eqb result 0 ≡ zerosb (drop from table.now) }
-{
-    let mut bits: u64 = 0;
-    let mut i = from;
-    while i < table.len() {
-        bits = bits | table[i];
-        i = i + 1;
-    }
-    bits
+    words.iter().fold(0, |bits, word| bits | word)
 }
 
 // Whether every word from `from` on is 0: by blocks while a whole one is left, then the rest.
@@ -110,17 +74,18 @@ pub fn zeros_from(from: usize, table: &[u64]) -> bool
     requires { from ≤ length table.now }
     ensures { result ≡ zerosb (drop from table.now) }
 {
-    let mut i = from;
-    while BLOCK <= table.len() - i {
-        if block_bits(i, table) != 0 {
+    let blocks = table[from..].chunks_exact(BLOCK);
+    let rest = blocks.remainder();
+    for block in blocks {
+        if bits_of(block) != 0 {
             return false;
         }
-        i = i + BLOCK;
     }
-    rest_bits(i, table) == 0
+    bits_of(rest) == 0
 }
 
 // Whether the state and the table are sound together.
+#[tactic(auto, unfolding(table::specs::Local::localb))]
 pub fn is_sound(page: u64, limit: u64, end: u64, count: u64, table: &[u64]) -> bool
     ensures { result ≡ localb page limit end count table.now }
 {
@@ -128,8 +93,5 @@ pub fn is_sound(page: u64, limit: u64, end: u64, count: u64, table: &[u64]) -> b
         return false;
     }
     let n = count as usize;
-    if !entries_hold(page, end, n, table) {
-        return false;
-    }
-    zeros_from(n * ENTRY_WORDS, table)
+    entries_hold(page, end, n, table) && zeros_from(n * ENTRY_WORDS, table)
 }

@@ -27,9 +27,9 @@ use Rattle.pieces.specs.Pieces.{piece, behind}
 use Rattle.pieces.specs.declared.Class.{Class}
 use Rattle.pieces.specs.declared.Piece.{Piece}
 use Rattle.pieces.specs.declared.Status.TheVariants.{Live}
-use Rattle.refusals.specs.AnswerNumbers.{not_sound, unknown_code, zero_asked, beyond_limit, table_full, no_address, allocate_number, address_of}
-use Rattle.refusals.specs.declared.AllocateAnswer.{AllocateAnswer}
-use Rattle.refusals.specs.declared.AllocateAnswer.TheVariants as allocate
+use Rattle.refusals.specs.AnswerNumbers.{not_sound, unknown_code, zero_asked, beyond_limit, table_full, no_address, allocate_refusal}
+use Rattle.refusals.specs.declared.AllocateRefusal.{AllocateRefusal}
+use Rattle.refusals.specs.declared.AllocateRefusal.TheVariants as allocate
 use Rattle.requests.proofs.RequestLaws.{class_small}
 use Rattle.requests.specs.Requests.{typeb, class_for}
 use Rattle.room.proofs.RoomLaws.{limit_kept}
@@ -38,15 +38,12 @@ use Rattle.rules.proofs.InsertLaws.{insert_within, insert_last}
 use Rattle.rules.specs.Editing.{insert}
 use Rattle.settle.proofs.SettleLaws.{ready_with, full_with}
 use Rattle.settle.specs.Settle.{if_room, SettleFits, CarryFits}
-use Rattle.settle.specs.declared.Settling.TheVariants.{Ready, TableFull}
-use Rattle.settle.specs.declared.Settling.{Settling}
 use Rattle.space.proofs.OutcomeLaws.{refusing_yes, refusing_no, sound_true, settled_carried, settled_not}
 use Rattle.space.specs.Halves.{PlaceFits, lives_around, carry_said, carried, Carries, Refuses, AllocateLeads}
 use Rattle.space.specs.Outcomes.{SoundSpace, soundb, entries_of, lives_of, Outcome, refused, settled}
 use Rattle.space.specs.Placing.{beyondb, Placed, unplaced, placed_at, placed, allocated}
 use Rattle.space.specs.declared.Space.{Space}
-use Rattle.space.specs.declared.place.AllocateDecision.{AllocateDecision}
-use Rattle.space.specs.declared.place.AllocateDecision.TheVariants.{Change, Refused}
+use Rattle.std.specs.Prelude.{Option, Some, None, Result, Ok, Err}
 use Rattle.table.proofs.TilingLaws.{ends_below}
 
 -- ---- the limit
@@ -62,11 +59,11 @@ module _ (sp : Space) (s : ℕ) (q : Place) where
 
 -- an outcome with its address
 module _ {sp : Space} {w : List ℕ} {o : Outcome} (b : ℕ) where
-  placed_carried : {plan : Plan} → Carries sp w o plan → AllocateLeads sp w (placed_at b o) (Change b plan)
+  placed_carried : {plan : Plan} → Carries sp w o plan → AllocateLeads sp w (placed_at b o) (Ok (b, plan))
   unfolding placed_at
   placed_carried c = (ap (λ (v : Outcome). (placed_at b v).address) c.leads, c)
 
-  placed_not : Refuses sp w o table_full → AllocateLeads sp w (placed_at b o) (Refused allocate.TableFull)
+  placed_not : Refuses sp w o table_full → AllocateLeads sp w (placed_at b o) (Err allocate.TableFull)
   unfolding placed_at
   placed_not c = (ap (λ (v : Outcome). (placed_at b v).address) c.leads, c)
 
@@ -75,25 +72,25 @@ pub refusal_leads : (sp : Space) (w : List ℕ) {o : Placed} {k : ℕ} → o ≡
     → (no_address ≡ o.address) × Refuses sp w o.outcome k
 refusal_leads sp w e n = (ap (λ (v : Placed). v.address) (sym e), record { leads = ap (λ (v : Placed). v.outcome) (sym e); some = n })
 
-pub allocate_same : (sp : Space) (w : List ℕ) {o o' : Placed} (r : AllocateDecision) → o ≡ o' → AllocateLeads sp w o' r → AllocateLeads sp w o r
+pub allocate_same : (sp : Space) (w : List ℕ) {o o' : Placed} (r : Result (ℕ × Plan) AllocateRefusal) → o ≡ o' → AllocateLeads sp w o' r → AllocateLeads sp w o r
 allocate_same sp w r e d = subst⁻¹ (λ (v : Placed). AllocateLeads sp w v r) e d
 
 -- what was decided is done
-module _ (sp : Space) (w : List ℕ) (o : Placed) (r : AllocateDecision) (l : AllocateLeads sp w o r) where
-  change_of : {b : ℕ} {plan : Plan} → r ≡ Change b plan → AllocateLeads sp w o (Change b plan)
+module _ (sp : Space) (w : List ℕ) (o : Placed) (r : Result (ℕ × Plan) AllocateRefusal) (l : AllocateLeads sp w o r) where
+  change_of : {b : ℕ} {plan : Plan} → r ≡ Ok (b, plan) → AllocateLeads sp w o (Ok (b, plan))
   change_of e = subst (AllocateLeads sp w o) e l
 
-  pub allocate_fits : {b : ℕ} {plan : Plan} → r ≡ Change b plan → CarryFits sp.count w plan
+  pub allocate_fits : {b : ℕ} {plan : Plan} → r ≡ Ok (b, plan) → CarryFits sp.count w plan
   allocate_fits e = (change_of e).1.fits
 
-  pub allocate_done : {b : ℕ} {plan : Plan} {next : Space} {v : List ℕ} → r ≡ Change b plan → carry_said next v ≡ carried sp w plan
+  pub allocate_done : {b : ℕ} {plan : Plan} {next : Space} {v : List ℕ} → r ≡ Ok (b, plan) → carry_said next v ≡ carried sp w plan
       → ◌≡◌ {A = Placed} (record { address = b; outcome = carry_said next v }) o
   allocate_done e q = let c = change_of e in (λ i. record { address = c.0 i; outcome = (q ∙ c.1.leads) i })
 
-  pub allocate_not : {answer : AllocateAnswer} → r ≡ Refused answer
-      → ◌≡◌ {A = Placed} (record { address = address_of answer; outcome = refused (allocate_number answer) sp w }) o
+  pub allocate_not : {answer : AllocateRefusal} → r ≡ Err answer
+      → ◌≡◌ {A = Placed} (record { address = no_address; outcome = refused (allocate_refusal answer) sp w }) o
   allocate_not {answer} e =
-      let c : AllocateLeads sp w o (Refused answer) = subst (AllocateLeads sp w o) e l in
+      let c : AllocateLeads sp w o (Err answer) = subst (AllocateLeads sp w o) e l in
       (λ i. record { address = c.0 i; outcome = c.1.leads i })
 
 -- ---- the chosen place
@@ -154,15 +151,15 @@ module _ (sp : Space) (k : Class) (s : ℕ) (w : List ℕ) (q : Place) (h : Plac
         ∙ ap (λ (ps : List Piece). placed_at b (settled sp w ps)) stands_at.lives)
 
     -- r is what `settle` decided
-    module _ {r : Settling} (is : r ≡ if_room w (plan_with sp.page sp.end sp.count i i w (piece b s (Live k)))) where
-      pub placed_change : {plan : Plan} → r ≡ Ready plan → AllocateLeads sp w (placed sp k s w q) (Change b plan)
+    module _ {r : Option Plan} (is : r ≡ if_room w (plan_with sp.page sp.end sp.count i i w (piece b s (Live k)))) where
+      pub placed_change : {plan : Plan} → r ≡ Some plan → AllocateLeads sp w (placed sp k s w q) (Ok (b, plan))
       placed_change r_is =
           rw placed_settled (placed_carried b (settled_carried sp w _ h.sound (ready_with place_settle _ (sym r_is ∙ is))))
 
-      pub placed_full : r ≡ TableFull → AllocateLeads sp w (placed sp k s w q) (Refused allocate.TableFull)
+      pub placed_full : r ≡ None → AllocateLeads sp w (placed sp k s w q) (Err allocate.TableFull)
       placed_full r_is = rw placed_settled (placed_not b (settled_not sp w _ (full_with place_settle _ (sym r_is ∙ is))))
 
-  pub placed_beyond : beyondb sp s q ≡ true → AllocateLeads sp w (placed sp k s w q) (Refused allocate.BeyondLimit)
+  pub placed_beyond : beyondb sp s q ≡ true → AllocateLeads sp w (placed sp k s w q) (Err allocate.BeyondLimit)
   unfolding placed
   placed_beyond e = refusal_leads sp w (refusing_yes unplaced sp w _ beyond_limit _ e) (λ z. omega (arith, z))
 
@@ -177,13 +174,13 @@ module _ (sp : Space) (t s : ℕ) (w : List ℕ) where
     checked : not (soundb sp w) ≡ false
     checked = ap not (sound_true sp w sound)
 
-    pub allocated_unknown : typeb t ≡ false → AllocateLeads sp w (allocated sp t s w) (Refused allocate.UnknownType)
+    pub allocated_unknown : typeb t ≡ false → AllocateLeads sp w (allocated sp t s w) (Err allocate.UnknownType)
     unfolding allocated
     allocated_unknown f =
         refusal_leads sp w (refusing_no unplaced sp w _ not_sound _ checked ∙ refusing_yes unplaced sp w _ unknown_code _ (ap not f))
         (λ z. omega (arith, z))
 
-    pub allocated_zero : typeb t ≡ true → s ≡ 0 → AllocateLeads sp w (allocated sp t s w) (Refused allocate.NoBytes)
+    pub allocated_zero : typeb t ≡ true → s ≡ 0 → AllocateLeads sp w (allocated sp t s w) (Err allocate.NoBytes)
     unfolding allocated
     allocated_zero f g =
         refusal_leads sp w (refusing_no unplaced sp w _ not_sound _ checked

@@ -1,10 +1,10 @@
 -- Giving back, lengthening, shortening. Each names a live piece by its exact address and size.
 --
 --   name_of a z                     a piece by its address and size
---   named_in sp w zero a z          the front of the three calls, on a sound table: the entry of the named piece, or the refusal. `zero` says that
---                                  a size or change is 0, where the call has that refusal
---   why_not r                      the refusal of a name r that has no entry
---   naming sp w zero a z found     2, state and table are not sound; the refusal of the name; and else what `found` gives of its entry
+--   named_in sp w a z              the entry of the named piece, on a sound table, or why there is none
+--   when_named sp w found r        the refusal of a name r that has no entry; and else what `found` gives of its entry
+--   naming sp w zero a z found     the front of the three calls: 2, state and table are not sound; 4, if `zero` says that a size or change is 0,
+--                                  where the call has that refusal; the refusal of the name; and else what `found` gives of its entry
 --   released_at sp a z w i x       the piece x, entry i, is released
 --   released sp a z w              a release
 --   new_size sp a z way m w i x    how many bytes the piece x, entry i, has that is m longer, or m shorter; or why it keeps those it has
@@ -12,25 +12,18 @@
 --   resized sp a z way m w         an extend or a shorten by m; `extended`, `shortened` each by itself
 --
 -- The room behind a piece and what remains of it are in room/specs/Room.antt. Assumes nothing.
-use Rattle.std.specs.Prelude.{Bool, false, cond, not, ◌||◌, List, ℕ, ◌+◌, ◌-◌, eqb}
-use Rattle.find.specs.Find.{find_in}
-use Rattle.find.specs.declared.Found.{Found}
-use Rattle.find.specs.declared.Found.TheVariants as finding
+use Rattle.std.specs.Prelude.{Bool, false, cond, not, ◌||◌, List, ℕ, ◌+◌, ◌-◌, eqb, Result, Ok, Err}
+use Rattle.find.specs.Find.{Found, find_in}
 use Rattle.pieces.specs.Pieces.{class_of}
 use Rattle.pieces.specs.Words.{entries}
 use Rattle.pieces.specs.declared.Piece.{Piece}
-use Rattle.refusals.specs.AnswerNumbers.{not_sound, not_named_number, not_resized_number}
-use Rattle.refusals.specs.declared.NotNamed.TheVariants.{NoBytes, BeyondEnd, InFree, InsideLive, OtherSize}
-use Rattle.refusals.specs.declared.NotNamed.{NotNamed}
+use Rattle.refusals.specs.AnswerNumbers.{not_sound, zero_asked, not_named_number, not_resized_number}
+use Rattle.refusals.specs.declared.NotResized.{NotResized}
 use Rattle.refusals.specs.declared.NotResized.TheVariants.{NoRoomBehind, BeyondLimit, TooLittleLeft}
 use Rattle.room.specs.Room.{room_behindb, grows_beyondb, remainsb}
 use Rattle.rules.specs.Editing.{Name, remove, resize}
 use Rattle.space.specs.Outcomes.{soundb, entries_of, lives_of, Outcome, refused, refusing, plain, settled}
 use Rattle.space.specs.declared.Space.{Space}
-use Rattle.space.specs.declared.give.Named.{Named}
-use Rattle.space.specs.declared.give.Named.TheVariants.{At, Not}
-use Rattle.space.specs.declared.give.NewSize.{NewSize}
-use Rattle.space.specs.declared.give.NewSize.TheVariants.{Bytes, Kept}
 use Rattle.space.specs.declared.give.Way.{Way}
 use Rattle.space.specs.declared.give.Way.TheVariants.{Longer, Shorter}
 
@@ -39,29 +32,18 @@ name_of a z = record { address = a; size = z }
 
 -- ---- the front
 
-abbrev pub named_as : Found → Named
-named_as (finding.At i x) = At i x
-named_as finding.BeyondEnd = Not BeyondEnd
-named_as finding.InFree = Not InFree
-named_as finding.InsideLive = Not InsideLive
-named_as finding.OtherSize = Not OtherSize
+abbrev pub named_in : Space → List ℕ → ℕ → ℕ → Found
+named_in sp w a z = find_in a z 0 (entries_of sp w)
 
-unfoldable pub named_in : Space → List ℕ → Bool → ℕ → ℕ → Named
-named_in sp w zero a z = cond zero (Not NoBytes) (named_as (find_in a z 0 (entries_of sp w)))
-
--- one that has an entry is never asked for it, and any would do
-abbrev pub why_not : Named → NotNamed
-why_not (At i x) = NoBytes
-why_not (Not why) = why
-
-unfoldable pub when_named : Space → List ℕ → (ℕ → Piece → Outcome) → Named → Outcome
-when_named sp w found (At i x) = found i x
-when_named sp w found (Not why) = refused (not_named_number why) sp w
+unfoldable pub when_named : Space → List ℕ → (ℕ → Piece → Outcome) → Found → Outcome
+when_named sp w found (Ok (i, x)) = found i x
+when_named sp w found (Err why) = refused (not_named_number why) sp w
 
 unfoldable pub naming : Space → List ℕ → Bool → ℕ → ℕ → (ℕ → Piece → Outcome) → Outcome
 naming sp w zero a z found =
     refusing plain sp w (not (soundb sp w)) not_sound
-    (when_named sp w found (named_in sp w zero a z))
+    (refusing plain sp w zero zero_asked
+    (when_named sp w found (named_in sp w a z)))
 
 -- ---- release
 
@@ -77,18 +59,18 @@ released sp a z w = naming sp w false a z (released_at sp a z w)
 abbrev pub entries_behind : Space → List ℕ → ℕ → List Piece
 entries_behind sp w i = entries w (i + 1) (sp.count - (i + 1))
 
-unfoldable pub new_size : Space → ℕ → ℕ → Way → ℕ → List ℕ → ℕ → Piece → NewSize
+unfoldable pub new_size : Space → ℕ → ℕ → Way → ℕ → List ℕ → ℕ → Piece → Result ℕ NotResized
 new_size sp a z Longer m w i x =
-    cond (not (room_behindb sp.page (class_of x.status) (a + z) z m (entries_behind sp w i))) (Kept NoRoomBehind)
-    (cond (grows_beyondb sp.page sp.limit (a + z) m (entries_behind sp w i)) (Kept BeyondLimit)
-    (Bytes (z + m)))
+    cond (not (room_behindb sp.page (class_of x.status) (a + z) z m (entries_behind sp w i))) (Err NoRoomBehind)
+    (cond (grows_beyondb sp.page sp.limit (a + z) m (entries_behind sp w i)) (Err BeyondLimit)
+    (Ok (z + m)))
 new_size sp a z Shorter m w i x =
-    cond (not (remainsb sp.page (class_of x.status) z m)) (Kept TooLittleLeft)
-    (Bytes (z - m))
+    cond (not (remainsb sp.page (class_of x.status) z m)) (Err TooLittleLeft)
+    (Ok (z - m))
 
-unfoldable pub resized_to : Space → ℕ → ℕ → List ℕ → NewSize → Outcome
-resized_to sp a z w (Bytes n) = settled sp w (resize (name_of a z) n (lives_of sp w))
-resized_to sp a z w (Kept why) = refused (not_resized_number why) sp w
+unfoldable pub resized_to : Space → ℕ → ℕ → List ℕ → Result ℕ NotResized → Outcome
+resized_to sp a z w (Ok n) = settled sp w (resize (name_of a z) n (lives_of sp w))
+resized_to sp a z w (Err why) = refused (not_resized_number why) sp w
 
 abbrev pub resized_at : Space → ℕ → ℕ → Way → ℕ → List ℕ → ℕ → Piece → Outcome
 resized_at sp a z way m w i x = resized_to sp a z w (new_size sp a z way m w i x)

@@ -7,10 +7,11 @@
 --   carried sp w plan           what a plan leaves that is carried out; carry_said r v, that the state r and the words v are left
 --   Carries sp w o plan         the plan can be carried out, and leaves o
 --   Refuses sp w o k            o is the refusal k, which is not 0
---   AllocateLeads sp w o r, ReleaseLeads sp w o r, ResizeLeads sp w o r     the decision r leads to o
+--   Leads f sp w o r            the decision r, a plan or a refusal with a number by f, leads to o
+--   AllocateLeads sp w o r, ReleaseLeads sp w o r, ResizeLeads sp w o r     so of each call
 --
 -- Assumes nothing.
-use Rattle.std.specs.Prelude.{◌≡◌, List, ℕ, ◌≤◌, ◌<◌}
+use Rattle.std.specs.Prelude.{◌≡◌, List, ℕ, ◌≤◌, ◌<◌, Result, Ok, Err}
 use Rattle.change.specs.declared.plan.Plan.{Plan}
 use Rattle.choose.specs.Place.{place_for}
 use Rattle.choose.specs.declared.place.Place.{Place}
@@ -18,18 +19,15 @@ use Rattle.find.specs.Find.{FoundAt}
 use Rattle.pieces.specs.Pieces.{Small}
 use Rattle.pieces.specs.declared.Class.{Class}
 use Rattle.pieces.specs.declared.Piece.{Piece}
-use Rattle.refusals.specs.AnswerNumbers.{allocate_number, address_of, release_number, resize_number}
+use Rattle.refusals.specs.AnswerNumbers.{no_address, allocate_refusal, release_refusal, resize_refusal}
+use Rattle.refusals.specs.declared.AllocateRefusal.{AllocateRefusal}
+use Rattle.refusals.specs.declared.ReleaseRefusal.{ReleaseRefusal}
+use Rattle.refusals.specs.declared.ResizeRefusal.{ResizeRefusal}
 use Rattle.rules.specs.Between.{lives_with}
 use Rattle.settle.specs.Settle.{carried_out, CarryFits}
 use Rattle.space.specs.Outcomes.{SoundSpace, entries_of, with_end, Outcome, refused}
 use Rattle.space.specs.Placing.{Placed}
 use Rattle.space.specs.declared.Space.{Space}
-use Rattle.space.specs.declared.give.ReleaseDecision.{ReleaseDecision}
-use Rattle.space.specs.declared.give.ReleaseDecision.TheVariants as release
-use Rattle.space.specs.declared.give.ResizeDecision.{ResizeDecision}
-use Rattle.space.specs.declared.give.ResizeDecision.TheVariants as resize
-use Rattle.space.specs.declared.place.AllocateDecision.{AllocateDecision}
-use Rattle.space.specs.declared.place.AllocateDecision.TheVariants as allocate
 
 abbrev pub lives_around : Space → List ℕ → ℕ → ℕ → List Piece → List Piece
 lives_around sp w i j ps = lives_with w sp.count i j ps
@@ -62,14 +60,18 @@ pub record Refuses (sp : Space) (w : List ℕ) (o : Outcome) (k : ℕ) : Type 0 
   pub leads : refused k sp w ≡ o
   pub some : k ≡ 0 → ⊥
 
-abbrev pub AllocateLeads : Space → List ℕ → Placed → AllocateDecision → Type 0
-AllocateLeads sp w o (allocate.Change b plan) = (b ≡ o.address) × Carries sp w o.outcome plan
-AllocateLeads sp w o (allocate.Refused answer) = (address_of answer ≡ o.address) × Refuses sp w o.outcome (allocate_number answer)
+-- the refusals of the decision r have the numbers `number`
+abbrev pub Leads : {E : Type 0} → (E → ℕ) → Space → List ℕ → Outcome → Result Plan E → Type 0
+Leads number sp w o (Ok plan) = Carries sp w o plan
+Leads number sp w o (Err refusal) = Refuses sp w o (number refusal)
 
-abbrev pub ReleaseLeads : Space → List ℕ → Outcome → ReleaseDecision → Type 0
-ReleaseLeads sp w o (release.Change plan) = Carries sp w o plan
-ReleaseLeads sp w o (release.Refused answer) = Refuses sp w o (release_number answer)
+abbrev pub ReleaseLeads : Space → List ℕ → Outcome → Result Plan ReleaseRefusal → Type 0
+ReleaseLeads sp w o r = Leads release_refusal sp w o r
 
-abbrev pub ResizeLeads : Space → List ℕ → Outcome → ResizeDecision → Type 0
-ResizeLeads sp w o (resize.Change plan) = Carries sp w o plan
-ResizeLeads sp w o (resize.Refused answer) = Refuses sp w o (resize_number answer)
+abbrev pub ResizeLeads : Space → List ℕ → Outcome → Result Plan ResizeRefusal → Type 0
+ResizeLeads sp w o r = Leads resize_refusal sp w o r
+
+-- a refusal has no address
+abbrev pub AllocateLeads : Space → List ℕ → Placed → Result (ℕ × Plan) AllocateRefusal → Type 0
+AllocateLeads sp w o (Ok (b, plan)) = (b ≡ o.address) × Carries sp w o.outcome plan
+AllocateLeads sp w o (Err refusal) = (no_address ≡ o.address) × Refuses sp w o.outcome (allocate_refusal refusal)

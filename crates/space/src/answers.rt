@@ -1,40 +1,41 @@
-// What the calls answer, and the new state with it. The answers and their numbers are those of `refusals`.
+// What the calls answer, and the new state with it. The refusals and their numbers are those of `refusals`.
+ghost use Rattle.std.specs.Prelude.{◌≡◌};
+
 use crate::Space;
 pub use refusals::{
-    AllocateAnswer, BEYOND_END, BEYOND_LIMIT, DONE, IN_FREE, INSIDE_LIVE, ListAnswer, NO_ADDRESS,
-    NO_ROOM_BEHIND, NOT_SOUND, NotNamed, NotResized, OTHER_SIZE, OUT_OF_RANGE, OpenAnswer,
-    ReleaseAnswer, ResizeAnswer, SLICE_TOO_SHORT, TABLE_FULL, TOO_LITTLE_LEFT, UNKNOWN_CODE,
-    ZERO_ASKED, address_of, allocate_number, count_of, list_number, not_named_number,
-    not_resized_number, open_number, release_number, resize_number,
+    AllocateRefusal, BEYOND_END, BEYOND_LIMIT, DONE, IN_FREE, INSIDE_LIVE, ListRefusal, NO_ADDRESS,
+    NO_ROOM_BEHIND, NOT_SOUND, NotNamed, NotResized, OTHER_SIZE, OUT_OF_RANGE, OpenRefusal,
+    Refusal, ReleaseRefusal, ResizeRefusal, SLICE_TOO_SHORT, TABLE_FULL, TOO_LITTLE_LEFT,
+    UNKNOWN_CODE, ZERO_ASKED, number_of,
 };
 
-// The new state with the answer.
-#[derive(Clone, Copy)]
-pub struct Opened {
+// The new state with the answer: what an accepted call tells, or the refusal.
+#[derive(Clone, Copy, PartialEq, Eq)]
+pub struct Answered<T, E> {
     pub space: Space,
-    pub answer: OpenAnswer,
+    pub answer: Result<T, E>,
 }
 
-#[derive(Clone, Copy)]
-pub struct Allocated {
-    pub space: Space,
-    pub answer: AllocateAnswer,
-}
+pub type Opened = Answered<(), OpenRefusal>;
 
-#[derive(Clone, Copy)]
-pub struct Released {
-    pub space: Space,
-    pub answer: ReleaseAnswer,
-}
+// The address of the new piece.
+pub type Allocated = Answered<u64, AllocateRefusal>;
 
-#[derive(Clone, Copy)]
-pub struct Resized {
-    pub space: Space,
-    pub answer: ResizeAnswer,
-}
+pub type Released = Answered<(), ReleaseRefusal>;
 
-#[derive(Clone, Copy)]
-pub struct Listed {
-    pub space: Space,
-    pub answer: ListAnswer,
+pub type Resized = Answered<(), ResizeRefusal>;
+
+// How many sections there are.
+pub type Listed = Answered<u64, ListRefusal>;
+
+impl Space {
+    // This state, with an answer.
+    pub fn answers<T, E>(self, answer: Result<T, E>) -> Answered<T, E>
+        ensures { result ≡ record { space = self; answer = answer } }
+    {
+        Answered {
+            space: self,
+            answer,
+        }
+    }
 }

@@ -13,14 +13,15 @@ pub mod open;
 pub mod place;
 
 ghost use Rattle.std.specs.Prelude.{◌≡◌};
+ghost use Rattle.pieces.specs.Words.{words_of, entries_in};
 ghost use Rattle.settle.specs.Settle.{CarryFits};
 ghost use Rattle.space.specs.Halves.{carry_said, carried};
-ghost use Rattle.space.specs.Outcomes.{soundb};
+ghost use Rattle.space.specs.Outcomes.{soundb, SoundSpace, entries_of};
 
 use change::plan::Plan;
 
 // The state: page size, address limit, end of the allocated file, count of entries.
-#[derive(Clone, Copy)]
+#[derive(Clone, Copy, PartialEq, Eq)]
 pub struct Space {
     pub page: u64,
     pub limit: u64,
@@ -36,6 +37,15 @@ impl Space {
         sound::is_sound(self.page, self.limit, self.end, self.count, table)
     }
 
+    // The words of the entries of a sound table.
+    pub fn entries(self, table: &[u64]) -> &[u64]
+        requires { SoundSpace self table.now }
+        ensures words { result.now ≡ words_of table.now 0 self.count }
+        ensures entries { entries_in result.now ≡ entries_of self table.now }
+    {
+        pieces::words_of(table, 0, self.count as usize)
+    }
+
     // The change that was decided on is written: every word of the table, and the state with the new end and count.
     pub fn carry_out(self, table: &mut [u64], plan: Plan) -> Space
         requires { CarryFits self.count table.old plan }
@@ -44,10 +54,9 @@ impl Space {
         let n = self.count as usize;
         settle::carry_out(n, table, plan);
         Space {
-            page: self.page,
-            limit: self.limit,
             end: plan.end,
             count: plan.count as u64,
+            ..self
         }
     }
 }

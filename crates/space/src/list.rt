@@ -5,8 +5,7 @@ ghost use Rattle.space.specs.Outcomes.{SoundSpace};
 ghost use Rattle.space.specs.Said.{list_said};
 
 use crate::Space;
-use crate::answers::{ListAnswer, Listed};
-use sections::Listing;
+use crate::answers::{ListRefusal, Listed};
 
 impl Space {
     // Address and size of each free section of one manager, in address order.
@@ -14,10 +13,7 @@ impl Space {
         ensures { list_said result out.new ≡ listed self manager table.now out.old }
     {
         if !self.is_sound(table) {
-            return Listed {
-                space: self,
-                answer: ListAnswer::NotSound,
-            };
+            return self.answers(Err(ListRefusal::NotSound));
         }
         self.list_sound(table, manager, out)
     }
@@ -27,22 +23,12 @@ impl Space {
         ensures { list_said result out.new ≡ listed self manager table.now out.old }
     {
         if !requests::is_manager(manager) {
-            return Listed {
-                space: self,
-                answer: ListAnswer::UnknownManager,
-            };
+            return self.answers(Err(ListRefusal::UnknownManager));
         }
         let class = requests::class_of_manager(manager);
-        let n = self.count as usize;
-        match sections::list(class, n, table, out) {
-            Listing::Sections(count) => Listed {
-                space: self,
-                answer: ListAnswer::Sections(count as u64),
-            },
-            Listing::SliceTooShort => Listed {
-                space: self,
-                answer: ListAnswer::SliceTooShort,
-            },
+        match sections::list(class, self.entries(table), out) {
+            Some(count) => self.answers(Ok(count as u64)),
+            None => self.answers(Err(ListRefusal::SliceTooShort)),
         }
     }
 }

@@ -4,7 +4,7 @@ ghost use Rattle.space.specs.Opening.{opened, default_page, default_limit};
 ghost use Rattle.space.specs.Said.{open_said};
 
 use crate::Space;
-use crate::answers::{OpenAnswer, Opened};
+use crate::answers::{OpenRefusal, Opened};
 
 // The size of the blocks of the storage that new recorders sit on (request E7).
 const DEFAULT_PAGE: u64 = 65536;
@@ -17,26 +17,22 @@ impl Space {
         ensures { open_said result table.new ≡ opened page limit table.old }
     {
         if !sound::in_ranges(page, limit, 0, 0, table.len()) {
-            return Opened {
-                space: Space {
-                    page: 0,
-                    limit: 0,
-                    end: 0,
-                    count: 0,
-                },
-                answer: OpenAnswer::OutOfRange,
-            };
-        }
-        moves::clear_all(table);
-        Opened {
-            space: Space {
-                page,
-                limit,
+            let nowhere = Space {
+                page: 0,
+                limit: 0,
                 end: 0,
                 count: 0,
-            },
-            answer: OpenAnswer::Done,
+            };
+            return nowhere.answers(Err(OpenRefusal::OutOfRange));
         }
+        moves::clear_all(table);
+        let empty = Space {
+            page,
+            limit,
+            end: 0,
+            count: 0,
+        };
+        empty.answers(Ok(()))
     }
 
     // Pages of the default size, and the largest limit.

@@ -7,23 +7,15 @@ ghost use Rattle.space.specs.Placing.{beyondb, placed, allocated};
 ghost use Rattle.space.specs.Said.{allocate_said};
 
 use crate::Space;
-use crate::answers::{AllocateAnswer, Allocated};
+use crate::answers::{AllocateRefusal, Allocated};
 use change::plan::Plan;
 use choose::place;
 use choose::place::Place;
 use pieces::{Class, Piece, Status};
-use settle::Settling;
 
 pub const METADATA: u64 = requests::METADATA;
 
 pub const RAW: u64 = requests::RAW;
-
-// What is decided on a request: where the piece goes, and the change that puts it there; or the refusal.
-#[derive(Clone, Copy)]
-pub enum AllocateDecision {
-    Change(u64, Plan),
-    Refused(AllocateAnswer),
-}
 
 impl Space {
     // Whether the place is the end, and the file would pass its limit.
@@ -31,47 +23,55 @@ impl Space {
         requires { GrowFits self.page self.limit self.end }
         ensures { result ≡ beyondb self size place }
     {
-        if place::is_end(place) {
-            return room::passes_limit(self.page, self.limit, self.end, size);
-        }
-        false
+        place.is_end() && room::passes_limit(self.page, self.limit, self.end, size)
     }
 
     // A piece is to go to the place that was chosen.
-    fn place(self, table: &[u64], class: Class, size: u64, place: Place) -> AllocateDecision
+    fn place(
+        self,
+        table: &[u64],
+        class: Class,
+        size: u64,
+        place: Place,
+    ) -> Result<(u64, Plan), AllocateRefusal>
         requires { PlaceFits self class size table.now place }
         ensures { AllocateLeads self table.now (placed self class size table.now place) result }
     {
         if self.is_beyond(place, size) {
-            return AllocateDecision::Refused(AllocateAnswer::BeyondLimit);
+            return Err(AllocateRefusal::BeyondLimit);
         }
         let n = self.count as usize;
-        let i = place::entry_of(place, n);
-        let b = place::address_of(place, self.end);
+        let i = place.entry(n);
+        let b = place.address(self.end);
         let new = Piece {
             address: b,
             size,
             status: Status::Live(class),
         };
-        match settle::with(self.page, self.end, n, i, i, new, table) {
-            Settling::Ready(plan) => AllocateDecision::Change(b, plan),
-            Settling::TableFull => AllocateDecision::Refused(AllocateAnswer::TableFull),
-        }
+        let plan = settle::with(self.page, self.end, n, i, i, new, table).ok_or(
+            AllocateRefusal::TableFull,
+        )?;
+        Ok((b, plan))
     }
 
-    pub fn decide_allocate(self, table: &[u64], code: u64, size: u64) -> AllocateDecision
+    // What is decided on a request: where the piece goes, and the change that puts it there; or the refusal.
+    pub fn decide_allocate(
+        self,
+        table: &[u64],
+        code: u64,
+        size: u64,
+    ) -> Result<(u64, Plan), AllocateRefusal>
         requires { SoundSpace self table.now }
         ensures { AllocateLeads self table.now (allocated self code size table.now) result }
     {
         if !requests::is_type(code) {
-            return AllocateDecision::Refused(AllocateAnswer::UnknownType);
+            return Err(AllocateRefusal::UnknownType);
         }
         if size == 0 {
-            return AllocateDecision::Refused(AllocateAnswer::NoBytes);
+            return Err(AllocateRefusal::NoBytes);
         }
-        let n = self.count as usize;
         let class = requests::class_for(self.page, code, size);
-        let place = place::place_for(self.page, class, size, n, table);
+        let place = place::place_for(self.page, class, size, self.entries(table));
         self.place(table, class, size, place)
     }
 
@@ -79,20 +79,11 @@ impl Space {
         ensures { allocate_said result table.new ≡ allocated self code size table.old }
     {
         if !self.is_sound(table) {
-            return Allocated {
-                space: self,
-                answer: AllocateAnswer::NotSound,
-            };
+            return self.answers(Err(AllocateRefusal::NotSound));
         }
         match self.decide_allocate(table, code, size) {
-            AllocateDecision::Change(b, plan) => Allocated {
-                space: self.carry_out(table, plan),
-                answer: AllocateAnswer::At(b),
-            },
-            AllocateDecision::Refused(answer) => Allocated {
-                space: self,
-                answer,
-            },
+            Ok((b, plan)) => self.carry_out(table, plan).answers(Ok(b)),
+            Err(refusal) => self.answers(Err(refusal)),
         }
     }
 }

@@ -1,7 +1,8 @@
 // The calls that keep a summary: each takes the summary lent by `&mut`, as the customer asked. The work is done by the function of the same name
-// in `by_value`, which takes the summary by value and hands back the answer, whether the call changes the summary, and the summary. So each
-// function here is thin: it copies the summary out, makes the call, writes the summary back where the call counted, and hands the answer back.
-// A refused call writes no number of the summary. All bodies have one shape, and need no proof file.
+// in `by_value`, which takes the summary by value and hands back the answer, and the summary if the call changes it. So each function here is
+// thin: it copies the summary out, makes the call, writes a summary that came back, and hands the answer back.
+// A refused call writes no number of the summary. All bodies have one shape, and need no proof file: the customer's form is one thin function
+// per call (document 01), and what differs is the call alone.
 #![tactic(auto)]
 
 ghost use Rattle.std.specs.Prelude.{◌≡◌};
@@ -19,12 +20,11 @@ pub fn open(pages: Pages, table: &mut [u64], summary: &mut Summary) -> Opened
     ensures { told (open_said result table.new) summary.new
         ≡ opened_with pages.page pages.limit table.old summary.old }
 {
-    let given = *summary;
-    let done = by_value::open(pages, table, given);
-    if done.counted {
-        *summary = done.summary;
+    let done = by_value::open(pages, table);
+    if let Some(changed) = done.summary {
+        *summary = changed;
     }
-    done.opened
+    done.answered
 }
 
 // With the page size and the limit of `Space::open_default`.
@@ -32,12 +32,11 @@ pub fn open_default(table: &mut [u64], summary: &mut Summary) -> Opened
     ensures { told (open_said result table.new) summary.new
         ≡ opened_with default_page default_limit table.old summary.old }
 {
-    let given = *summary;
-    let done = by_value::open_default(table, given);
-    if done.counted {
-        *summary = done.summary;
+    let done = by_value::open_default(table);
+    if let Some(changed) = done.summary {
+        *summary = changed;
     }
-    done.opened
+    done.answered
 }
 
 pub fn allocate(
@@ -51,10 +50,10 @@ pub fn allocate(
 {
     let given = *summary;
     let done = by_value::allocate(space, table, given, request);
-    if done.counted {
-        *summary = done.summary;
+    if let Some(changed) = done.summary {
+        *summary = changed;
     }
-    done.allocated
+    done.answered
 }
 
 pub fn release(space: Space, table: &mut [u64], summary: &mut Summary, named: Named) -> Released
@@ -63,10 +62,10 @@ pub fn release(space: Space, table: &mut [u64], summary: &mut Summary, named: Na
 {
     let given = *summary;
     let done = by_value::release(space, table, given, named);
-    if done.counted {
-        *summary = done.summary;
+    if let Some(changed) = done.summary {
+        *summary = changed;
     }
-    done.released
+    done.answered
 }
 
 pub fn extend(space: Space, table: &mut [u64], summary: &mut Summary, change: Change) -> Resized
@@ -75,10 +74,10 @@ pub fn extend(space: Space, table: &mut [u64], summary: &mut Summary, change: Ch
 {
     let given = *summary;
     let done = by_value::extend(space, table, given, change);
-    if done.counted {
-        *summary = done.summary;
+    if let Some(changed) = done.summary {
+        *summary = changed;
     }
-    done.resized
+    done.answered
 }
 
 pub fn shorten(space: Space, table: &mut [u64], summary: &mut Summary, change: Change) -> Resized
@@ -87,10 +86,10 @@ pub fn shorten(space: Space, table: &mut [u64], summary: &mut Summary, change: C
 {
     let given = *summary;
     let done = by_value::shorten(space, table, given, change);
-    if done.counted {
-        *summary = done.summary;
+    if let Some(changed) = done.summary {
+        *summary = changed;
     }
-    done.resized
+    done.answered
 }
 
 // Works the summary out afresh from a sound table; the table stays as it is.
@@ -98,10 +97,9 @@ pub fn fresh(space: Space, table: &[u64], summary: &mut Summary) -> Freshened
     ensures { told (fresh_said result table.now) summary.new
         ≡ freshened space table.now summary.old }
 {
-    let given = *summary;
-    let done = by_value::fresh(space, table, given);
-    if done.counted {
-        *summary = done.summary;
+    let done = by_value::fresh(space, table);
+    if let Some(changed) = done.summary {
+        *summary = changed;
     }
-    done.freshened
+    done.answered
 }

@@ -1,9 +1,9 @@
 -- `summary_of` is what specs/Described.antt says of a summary, and nothing else is.
 --
--- In this order: a decade and its sizes (decade-in, in-decade); what is counted of the entries that pass a test (how-many, bytes-are, largest-is), and
+-- In this order: a decade and its sizes (decade-in, in-decade, decade-by-power); what is counted of the entries that pass a test (how-many, bytes-are, largest-is), and
 -- that it is one number (-unique); the statements.
 --
-use Prim.Native.Nat.{ℕ, zero, suc, ◌+◌, ◌*◌, ◌^◌, ◌≤◌, ◌<◌, max}
+use Prim.Native.Nat.{ℕ, zero, suc, ◌+◌, ◌*◌, ◌^◌, ◌≤◌, ◌<◌, min, max}
 use mathlib.Core.Bool.{Bool, true, false, cond}
 use mathlib.Core.List.{List, [], ◌∷◌, Memᴰ}
 use mathlib.Core.Path.{◌≡◌, refl, sym, ap, ◌∙◌}
@@ -93,6 +93,30 @@ in_decade {d} {z} l h =
     split (decade_of z) d
     (λ a. split d (decade_of z) (λ b. omega arith) (λ b. absurd (not_lower b l (decade_in z) h)))
     (λ a. absurd (not_lower a (decade_few z) h (decade_in z)))
+
+-- the decade by the power of ten that a size reaches, if it has a byte
+pub decade_by_power : (z r : ℕ) → ten ^ r ≤ max z 1 → max z 1 < ten * ten ^ r → min r last_decade ≡ decade_of z
+decade_by_power z r low high = split r last_decade up_to_last beyond
+  where
+    some_bytes : (d : ℕ) → 1 ≤ d → ten ^ d ≤ max z 1 → ten ^ d ≤ z
+    some_bytes d l h =
+        let some : 0 < ten = omega arith in
+        let p : ten ^ 1 ≤ ten ^ d = pow-le-pow_right some l in
+        omega arith
+
+    up_to_last : r ≤ last_decade → min r last_decade ≡ decade_of z
+    up_to_last l =
+        let is : min r last_decade ≡ r = omega arith in
+        let below : z < ten ^ suc r = rw (pow-suc ten r) (omega arith) in
+        is ∙ sym (in_decade l (record { least = λ some. some_bytes r some low; below = λ _. below }))
+
+    beyond : last_decade < r → min r last_decade ≡ decade_of z
+    beyond l =
+        let is : min r last_decade ≡ last_decade = omega arith in
+        let some : 0 < ten = omega arith in
+        let lower : last_decade ≤ r = omega arith in
+        let p : ten ^ last_decade ≤ ten ^ r = pow-le-pow_right some lower in
+        is ∙ sym (in_decade (omega arith) (record { least = λ some. some_bytes last_decade some (omega arith); below = λ q. absurd (omega arith) }))
 
 -- ---- the entries that pass a test
 

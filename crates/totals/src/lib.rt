@@ -2,12 +2,11 @@
 #![tactic(auto)]
 
 ghost use Rattle.std.specs.Prelude.{◌≡◌, ◌-◌, ◌*◌, ◌^◌, ◌≤◌, ◌<◌, pos, length};
-ghost use Rattle.pieces.specs.Words.{entry_words, entries};
+ghost use Rattle.pieces.specs.Words.{entries_in};
 ghost use Rattle.sections.specs.Sections.{sections};
 ghost use Rattle.totals.specs.Counting.{Countable};
 ghost use Rattle.totals.specs.Summary.{largest, decade_of, summary_of, no_totals, moved_by};
 
-use pages::larger;
 use pieces::{Class, kind};
 
 pub const MANAGERS: usize = 3;
@@ -15,14 +14,6 @@ pub const MANAGERS: usize = 3;
 pub const DECADES: usize = 19;
 
 const LAST_DECADE: usize = DECADES - 1;
-
-const TEN: u64 = 10;
-
-const HUNDRED: u64 = TEN * TEN;
-
-const THOUSAND: u64 = TEN * HUNDRED;
-
-const TEN_THOUSAND: u64 = TEN * THOUSAND;
 
 // The running summary. Managers 1, 2, 3 stand at 0, 1, 2: small metadata, small raw, large.
 #[derive(Clone, Copy)]
@@ -39,55 +30,33 @@ pub struct Summary {
     pub moved: i64,
 }
 
-// Which decade counts a section of so many bytes. Most sections are less than a page, so the first edges are tested one by one.
-#[tactic(auto, using(crate::proofs::DecadeLaws::decade_first, crate::proofs::DecadeLaws::decade_second, crate::proofs::DecadeLaws::decade_third))]
+// Which decade counts a section of so many bytes.
 pub fn decade_of(size: u64) -> usize
     ensures { result ≡ decade_of size }
 {
-    if size < TEN {
-        return 0;
-    }
-    if size < HUNDRED {
-        return 1;
-    }
-    if size < THOUSAND {
-        return 2;
-    }
-    let mut decade: usize = 3;
-    let mut edge: u64 = TEN_THOUSAND;
-    // The size reaches every edge below this one.
-    while decade < LAST_DECADE {
-        if size < edge {
-            return decade;
-        }
-        decade = decade + 1;
-        edge = edge * TEN;
-    }
-    decade
+    (size.max(1).ilog10() as usize).min(LAST_DECADE)
 }
 
-// The summary of the entries between two places of a table, afresh: no call has moved the end.
-pub fn work_out(from: usize, to: usize, table: &[u64]) -> Summary
-    requires { Countable table.now from to }
-    ensures { result ≡ summary_of (pos 0) (entries table.now from (to - from)) }
+// The summary of the entries, afresh: no call has moved the end.
+pub fn work_out(entries: &[u64]) -> Summary
+    requires { Countable entries.now }
+    ensures { result ≡ summary_of (pos 0) (entries_in entries.now) }
 {
     let mut sections = [0u64; MANAGERS];
     let mut bytes = [0u64; MANAGERS];
     let mut largest = [0u64; MANAGERS];
     let mut decades = [0u64; DECADES];
-    let mut i = from;
     // These are the numbers of the entries before i.
-    while i < to {
-        let entry = pieces::words_at(table, i);
+    for i in 0..pieces::count_in(entries) {
+        let entry = pieces::words_at(entries, i);
         if kind::is_free(entry.kind) {
             let manager = kind::manager_of(entry.kind);
             let decade = decade_of(entry.size);
-            sections[manager] = sections[manager] + 1;
-            bytes[manager] = bytes[manager] + entry.size;
-            largest[manager] = larger(largest[manager], entry.size);
-            decades[decade] = decades[decade] + 1;
+            sections[manager] += 1;
+            bytes[manager] += entry.size;
+            largest[manager] = largest[manager].max(entry.size);
+            decades[decade] += 1;
         }
-        i = i + 1;
     }
     Summary {
         sections,
@@ -98,19 +67,16 @@ pub fn work_out(from: usize, to: usize, table: &[u64]) -> Summary
     }
 }
 
-// The largest free section of a class among the first n entries, 0 where there is none.
-pub fn largest_of(class: Class, n: usize, table: &[u64]) -> u64
-    requires { n * entry_words ≤ length table.now }
-    ensures { result ≡ largest (sections class (entries table.now 0 n)) }
+// The largest free section of a class, 0 where there is none.
+pub fn largest_of(class: Class, entries: &[u64]) -> u64
+    ensures { result ≡ largest (sections class (entries_in entries.now)) }
 {
     let mut found: u64 = 0;
-    let mut i: usize = 0;
-    while i < n {
-        let entry = pieces::words_at(table, i);
+    for i in 0..pieces::count_in(entries) {
+        let entry = pieces::words_at(entries, i);
         if kind::is_free_of(entry.kind, class) {
-            found = larger(found, entry.size);
+            found = found.max(entry.size);
         }
-        i = i + 1;
     }
     found
 }

@@ -24,7 +24,7 @@ use Rattle.table.specs.Local.{withinb, shapeb, besideb, cutb, entryb}
 use Rattle.walk.proofs.StepLaws.{behind_within, behind_exact, behind_beyond}
 use Rattle.walk.specs.Walk.{at_border, behind_free_large, border_stateb, state_of, small_followsb, live_largeb, free_large_followsb, free_largeb, large_rulesb}
 use Rattle.walk.specs.Walk.{within_left, left_behind, walk_behind, walk_at, step_if, small_entryb, large_entryb, stepb, stepped}
-use Rattle.walk.specs.declared.Step.TheVariants.{On, Broken}
+use Rattle.std.specs.Prelude.{Some, None}
 use Rattle.walk.specs.declared.Walk.{Walk}
 
 -- ---- what is left of the page
@@ -231,21 +231,21 @@ module _ (P : ℕ) (pos : 0 < P) (E : ℕ) (s : Status) (a : ℕ) (u : Words) (l
     pub holds : stepb P E (walk_at P a s) u last ≡ true
     pub is : next ≡ walk_at P (a + u.size) (status_of u.kind)
 
-  pub went : (next : Walk) → stepped P E (walk_at P a s) u last ≡ On next → Went next
+  pub went : (next : Walk) → stepped P E (walk_at P a s) u last ≡ Some next → Went next
   unfolding stepb
   went next e = go (stepb P E (walk_at P a s) u last) refl e
     where
-      go : (t : Bool) → stepb P E (walk_at P a s) u last ≡ t → step_if t P (walk_at P a s) u.size u.kind ≡ On next → Went next
+      go : (t : Bool) → stepb P E (walk_at P a s) u last ≡ t → step_if t P (walk_at P a s) u.size u.kind ≡ Some next → Went next
       go true h q =
           let kind = kind_status u.kind (kind_true u.kind (and_left (kindb u.kind) _ (and_right (eqb u.address a) _ h))) in
           let on : next ≡ walk_behind P (a + u.size) (left_behind P (left P a) u.size) u.kind = cc in
           record { holds = h; is = on ∙ rw (left_behind_lem P pos a u.size, kind) }
       go false h q = let z : ◌≡◌ {A = ℕ} 0 1 = cc in absurd (omega arith)
 
-  pub broke : stepped P E (walk_at P a s) u last ≡ Broken → stepb P E (walk_at P a s) u last ≡ false
+  pub broke : stepped P E (walk_at P a s) u last ≡ None → stepb P E (walk_at P a s) u last ≡ false
   broke e = go (stepb P E (walk_at P a s) u last) refl e
     where
-      go : (t : Bool) → stepb P E (walk_at P a s) u last ≡ t → step_if t P (walk_at P a s) u.size u.kind ≡ Broken
+      go : (t : Bool) → stepb P E (walk_at P a s) u last ≡ t → step_if t P (walk_at P a s) u.size u.kind ≡ None
           → stepb P E (walk_at P a s) u last ≡ false
       go true h q = let z : ◌≡◌ {A = ℕ} 0 1 = cc in absurd (omega arith)
       go false h q = h

@@ -23,7 +23,7 @@
 --
 -- A small entry is not tested against the end E: the walk only goes up, so one that ends at E never was behind it. Assumes nothing. That these
 -- say the same as `table`'s tests is proved in proofs/StateLaws.antt.
-use Rattle.std.specs.Prelude.{Bool, cond, not, ◌&&◌, ◌||◌, ℕ, ◌+◌, ◌-◌, ◌*◌, ◌%◌, ◌^◌, ◌≤◌, ◌<◌, List, leb, ltb, eqb, length}
+use Rattle.std.specs.Prelude.{Option, Some, None, Bool, cond, not, ◌&&◌, ◌||◌, ℕ, ◌+◌, ◌-◌, ◌*◌, ◌%◌, ◌^◌, ◌≤◌, ◌<◌, List, leb, ltb, eqb, length}
 use Rattle.pages.specs.Pages.{PageSize, left}
 use Rattle.pieces.specs.declared.Class.TheVariants.{Large}
 use Rattle.pieces.specs.declared.Status.{Status}
@@ -33,8 +33,6 @@ use Rattle.pieces.specs.Pieces.{class_of, smallb, freeb, same_class, kind_of, ki
 use Rattle.pieces.specs.Words.{entry_words}
 use Rattle.table.specs.Sound.{largest_limit, largest_capacity}
 use Rattle.walk.specs.declared.Walk.{Walk}
-use Rattle.walk.specs.declared.Step.{Step}
-use Rattle.walk.specs.declared.Step.TheVariants.{On, Broken}
 
 -- ---- states
 
@@ -89,8 +87,8 @@ pub record Walked (P : ℕ) (v : Walk) : Type 0 where
   pub within : v.left ≤ P
   pub state : v.state ≤ behind_free_large
 
-abbrev pub step_if : Bool → ℕ → Walk → ℕ → ℕ → Step
-step_if b P v z k = cond b (On (walk_behind P (v.at + z) (left_behind P v.left z) k)) Broken
+abbrev pub step_if : Bool → ℕ → Walk → ℕ → ℕ → Option Walk
+step_if b P v z k = cond b (Some (walk_behind P (v.at + z) (left_behind P v.left z) k)) None
 
 abbrev pub small_entryb : ℕ → Walk → ℕ → Bool
 small_entryb P v z = leb 1 z && within_left P v.left z
@@ -103,7 +101,7 @@ stepb P E v u last =
     eqb u.address v.at
     && (kindb u.kind && cond (small_followsb v.state u.kind) (small_entryb P v u.size) (large_entryb P E v u.size u.kind last))
 
-abbrev pub stepped : ℕ → ℕ → Walk → Words → Bool → Step
+abbrev pub stepped : ℕ → ℕ → Walk → Words → Bool → Option Walk
 stepped P E v u last = step_if (stepb P E v u last) P v u.size u.kind
 
 pub record WalkFits (P E n : ℕ) (w : List ℕ) : Type 0 where

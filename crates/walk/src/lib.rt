@@ -10,20 +10,16 @@ ghost use Rattle.walk.specs.Walk.{behind_free_large, small_followsb, live_largeb
 ghost use Rattle.walk.specs.Walk.{left_behind, walk_behind, walk_at, Walked, step_if, small_entryb, large_entryb, stepped};
 
 use pieces::{FREE_LARGE, LIVE_LARGE, Words};
+use std::cmp::Ordering;
 
 // Where the walk has come: behind an entry that ends at `at`, with `left` bytes to the first border above it. Inside a page the state is the
 // kind of that entry; at a border it is one of the two numbers below, since there only a free large entry says anything of the next one.
+// It is a number and no enum, since `small_follows` shifts by it and by the word of the kind: an enum would become this number again at each entry.
 #[derive(Clone, Copy)]
 pub struct Walk {
     pub at: u64,
     pub left: u64,
     pub state: u64,
-}
-
-#[derive(Clone, Copy)]
-pub enum Step {
-    On(Walk),
-    Broken,
 }
 
 const AT_BORDER: u64 = 0;
@@ -60,68 +56,51 @@ fn small_follows(state: u64, kind: u64) -> bool
 }
 
 // What is left of the page behind so many bytes.
+#[tactic(auto, unfolding(crate::specs::Walk::left_behind))]
 fn left_behind(p: u64, left: u64, size: u64) -> u64
     requires { 0 < p }
     ensures { result ≡ left_behind p left size }
 {
-    if size < left {
-        return left - size;
+    match size.cmp(&left) {
+        Ordering::Less => left - size,
+        Ordering::Equal => p,
+        Ordering::Greater => p - (size - left) % p,
     }
-    if size == left {
-        return p;
-    }
-    p - (size - left) % p
 }
 
 // The walk behind an entry of this kind that ends at `at`.
+#[tactic(auto, unfolding(crate::specs::Walk::state_of))]
 fn behind(p: u64, at: u64, left: u64, kind: u64) -> Walk
     ensures { result ≡ walk_behind p at left kind }
 {
-    if left != p {
-        return Walk {
-            at,
-            left,
-            state: kind,
-        };
-    }
-    if kind == FREE_LARGE {
-        return Walk {
-            at,
-            left,
-            state: BEHIND_FREE_LARGE,
-        };
-    }
-    Walk {
-        at,
-        left,
-        state: AT_BORDER,
-    }
+    let state = if left != p {
+        kind
+    } else if kind == FREE_LARGE {
+        BEHIND_FREE_LARGE
+    } else {
+        AT_BORDER
+    };
+    Walk { at, left, state }
 }
 
 // Behind a small entry whose kind may follow: it is smaller than a page, which for 1 to p - 1 is one comparison, and within what is left of one.
-fn small_step(p: u64, walk: Walk, size: u64, kind: u64) -> Step
+fn small_step(p: u64, walk: Walk, size: u64, kind: u64) -> Option<Walk>
     requires { Walked p walk × (kind < kind_of (Free Large)) }
     ensures { result ≡ step_if (small_entryb p walk size) p walk size kind }
 {
     let left = walk.left;
-    if size < 1 {
-        return Step::Broken;
-    }
-    if p - 1 < size {
-        return Step::Broken;
-    }
-    if left < size {
-        return Step::Broken;
+    if !(1..=p - 1).contains(&size) || left < size {
+        return None;
     }
     let at = walk.at + size;
     if left == size {
-        return Step::On(Walk {
+        return Some(Walk {
             at,
             left: p,
             state: AT_BORDER,
         });
     }
-    Step::On(Walk {
+    Some(Walk {
         at,
         left: left - size,
         state: kind,
@@ -129,87 +108,67 @@ fn small_step(p: u64, walk: Walk, size: u64, kind: u64) -> Step
 }
 
 // A live large entry starts at a border and has at least a page.
+#[tactic(auto, unfolding(crate::specs::Walk::live_largeb))]
 fn live_large_holds(p: u64, state: u64, size: u64) -> bool
     ensures { result ≡ live_largeb p state size }
 {
-    if size < p {
-        return false;
-    }
-    if state == AT_BORDER {
-        return true;
-    }
-    state == BEHIND_FREE_LARGE
+    p <= size && (state == AT_BORDER || state == BEHIND_FREE_LARGE)
 }
 
 // A free large entry may stand at a border, not behind another, or inside a page behind a live large one.
 fn free_large_follows(state: u64) -> bool
     ensures { result ≡ free_large_followsb state }
 {
-    if state == AT_BORDER {
-        return true;
-    }
-    state == LIVE_LARGE
+    state == AT_BORDER || state == LIVE_LARGE
 }
 
 // A free large entry stands where it may; as the last entry it has less than a page.
+#[tactic(auto, unfolding(crate::specs::Walk::free_largeb))]
 fn free_large_holds(p: u64, state: u64, size: u64, last: bool) -> bool
     ensures { result ≡ free_largeb p state size last }
 {
-    if !free_large_follows(state) {
-        return false;
-    }
-    if last {
-        return size < p;
-    }
-    true
+    free_large_follows(state) && (!last || size < p)
 }
 
 // An entry is large, and holds as its kind asks.
+#[tactic(auto, unfolding(crate::specs::Walk::large_rulesb))]
 fn large_holds(p: u64, state: u64, kind: u64, size: u64, last: bool) -> bool
     ensures { result ≡ large_rulesb p state kind size last }
 {
-    if kind == LIVE_LARGE {
-        return live_large_holds(p, state, size);
+    match kind {
+        LIVE_LARGE => live_large_holds(p, state, size),
+        FREE_LARGE => free_large_holds(p, state, size, last),
+        _ => false,
     }
-    if kind == FREE_LARGE {
-        return free_large_holds(p, state, size, last);
-    }
-    false
 }
 
 // Behind any other entry.
-fn large_step(p: u64, end: u64, walk: Walk, size: u64, kind: u64, last: bool) -> Step
+fn large_step(p: u64, end: u64, walk: Walk, size: u64, kind: u64, last: bool) -> Option<Walk>
     requires { 0 < p }
     ensures { result ≡ step_if (large_entryb p end walk size kind last) p walk size kind }
 {
-    if size < 1 {
-        return Step::Broken;
+    if size < 1
+        || end < walk.at
+        || end - walk.at < size
+        || !large_holds(p, walk.state, kind, size, last)
+    {
+        return None;
     }
-    if end < walk.at {
-        return Step::Broken;
-    }
-    if end - walk.at < size {
-        return Step::Broken;
-    }
-    if !large_holds(p, walk.state, kind, size, last) {
-        return Step::Broken;
-    }
-    Step::On(behind(p, walk.at + size, left_behind(p, walk.left, size), kind))
+    Some(behind(p, walk.at + size, left_behind(p, walk.left, size), kind))
 }
 
 // The walk behind the next entry, if that keeps the rules.
-pub fn advance(p: u64, end: u64, walk: Walk, entry: Words, last: bool) -> Step
+#[tactic(auto, unfolding(crate::specs::Walk::stepb))]
+pub fn advance(p: u64, end: u64, walk: Walk, entry: Words, last: bool) -> Option<Walk>
     requires { Walked p walk }
     ensures { result ≡ stepped p end walk entry last }
 {
-    if entry.address != walk.at {
-        return Step::Broken;
-    }
-    if !pieces::is_kind(entry.kind) {
-        return Step::Broken;
+    if entry.address != walk.at || !pieces::is_kind(entry.kind) {
+        return None;
     }
     if small_follows(walk.state, entry.kind) {
-        return small_step(p, walk, entry.size, entry.kind);
+        small_step(p, walk, entry.size, entry.kind)
+    } else {
+        large_step(p, end, walk, entry.size, entry.kind, last)
     }
-    large_step(p, end, walk, entry.size, entry.kind, last)
 }

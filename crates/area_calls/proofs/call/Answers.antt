@@ -23,16 +23,16 @@ carry_out-requires c =
     let b = c.args.area.now in
     let got = c.read-space in
     let bytes : Bytes b = λ i. let e : Fits w8 (get_or b i 0) = search rules in e.fits in
-    (held b c.requires.area got.result _ got.ensures.0 got.ensures.1 bytes, c.in-Change.ensures.1.fits)
+    (held b c.requires.area got.result _ got.ensures.0 got.ensures.1 bytes, c.in-Ok.ensures.1.fits)
 
-pub returns-in-Change : goal.returns-in-Change
-returns-in-Change c =
+pub returns-in-Ok : goal.returns-in-Ok
+returns-in-Ok c =
     let a = c.args in
     let got = c.read-space in
-    told_done a.area.now c.requires.area got.result _ got.ensures.0 got.ensures.1 a.asked c.in-Change.ensures c.carry_out.ensures
+    told_done a.area.now c.requires.area got.result _ got.ensures.0 got.ensures.1 a.asked c.in-Ok.ensures c.carry_out.ensures
 
-pub returns-in-Refused : goal.returns-in-Refused
-returns-in-Refused c =
+pub returns-in-Err : goal.returns-in-Err
+returns-in-Err c =
     let a = c.args in
     let got = c.read-space in
-    told_refused a.area.now c.requires.area got.result _ got.ensures.0 got.ensures.1 a.asked c.in-Refused.ensures
+    told_refused a.area.now c.requires.area got.result _ got.ensures.0 got.ensures.1 a.asked c.in-Err.ensures

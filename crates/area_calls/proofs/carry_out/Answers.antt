@@ -16,7 +16,7 @@ put_state-requires c =
 pub put_entries-requires : goal.put_entries-requires
 put_entries-requires c =
     let a = c.args in
-    let last = c.larger-to.ensures in
+    let last = c.max-to.ensures in
     let long : AreaFits a.area.now a.table.now = ap length c.requires.0 ∙ length_area a.space a.table.now in (
       omega (arith, long),
       (carry_first a.space a.table.now a.plan c.requires.1 _ last, omega (arith, carry_most a.space a.table.now a.plan c.requires.1 _ last)),
@@ -25,5 +25,5 @@ put_entries-requires c =
 pub returns : goal.returns
 returns c =
     let a = c.args in
-    carry_written a.space a.table.now a.plan c.requires.1 _ c.larger-to.ensures a.area.now _ _ _ _ c.requires.0 c.carry_out-next.ensures
+    carry_written a.space a.table.now a.plan c.requires.1 _ c.max-to.ensures a.area.now _ _ _ _ c.requires.0 c.carry_out-next.ensures
     c.put_state.ensures c.put_entries.ensures

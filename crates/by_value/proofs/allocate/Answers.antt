@@ -11,30 +11,30 @@ unfolding allocated_with
 returns-then-not-agrees c =
     let a = c.args in
     let unsound = allocated_unsound a.space a.request.code a.request.size a.table.now in
-    not_placed a.space a.table.now a.given c.agrees.ensures c.if-not-agrees.true _ unsound
+    rw c.refused.ensures (not_placed a.space a.table.now a.given c.agrees.ensures c.if-not-agrees.true _ unsound)
 
 pub decide_allocate-requires : goal.decide_allocate-requires
 decide_allocate-requires c =
     let a = c.args in
     sound_agreed a.space a.table.now a.given c.agrees.ensures c.if-not-agrees.false
 
-pub carry_out-changed-requires : goal.carry_out-changed-requires
-carry_out-changed-requires c =
+pub carry_out-requires : goal.carry_out-requires
+carry_out-requires c =
     let a = c.args in
-    let d = subst (AllocateLeads _ _ _) c.in-Change.is c.decide_allocate.ensures in
+    let d = subst (AllocateLeads _ _ _) c.in-Ok.is c.decide_allocate.ensures in
     allocated_fits a.space a.table.now a.given c.agrees.ensures c.if-not-agrees.false a.request.code a.request.size d.1
 
-pub returns-in-Change : goal.returns-in-Change
+pub returns-in-Ok : goal.returns-in-Ok
 unfolding allocated_with
-returns-in-Change c =
+returns-in-Ok c =
     let a = c.args in
-    let d = subst (AllocateLeads _ _ _) c.in-Change.is c.decide_allocate.ensures in
-    let left = c.carry_out-changed.ensures in
-    placed_with a.space a.table.now a.given c.agrees.ensures c.if-not-agrees.false _ left d
+    let d = subst (AllocateLeads _ _ _) c.in-Ok.is c.decide_allocate.ensures in
+    let left = c.carry_out.ensures in
+    rw c.done.ensures (placed_with a.space a.table.now a.given c.agrees.ensures c.if-not-agrees.false _ left d)
 
-pub returns-in-Refused : goal.returns-in-Refused
+pub returns-in-Err : goal.returns-in-Err
 unfolding allocated_with
-returns-in-Refused c =
+returns-in-Err c =
     let a = c.args in
-    let d = subst (AllocateLeads _ _ _) c.in-Refused.is c.decide_allocate.ensures in
-    refused_placing a.space a.table.now a.given c.agrees.ensures c.if-not-agrees.false _ d
+    let d = subst (AllocateLeads _ _ _) c.in-Err.is c.decide_allocate.ensures in
+    rw c.refused-in-Err.ensures (refused_placing a.space a.table.now a.given c.agrees.ensures c.if-not-agrees.false _ d)

@@ -3,7 +3,7 @@ use Rattle.by_value.proofs.WithLaws.{opened_with_lem}
 use Rattle.by_value.proofs.open.Goals as goal
 
 pub returns : goal.returns
-returns c =
+returns c given =
     let a = c.args in
     let r = c.with_none.ensures in
-    opened_with_lem a.pages.page a.pages.limit a.table.now a.given c.«open».ensures r.0 r.1
+    opened_with_lem a.pages.page a.pages.limit a.table.now given c.«open».ensures r.answered (r.summary given)

@@ -4,7 +4,7 @@ use Rattle.space.specs.Opening.{default_page, default_limit}
 use Rattle.by_value.proofs.open_default.Goals as goal
 
 pub returns : goal.returns
-returns c =
+returns c given =
     let a = c.args in
     let r = c.with_none.ensures in
-    opened_with_lem default_page default_limit a.table.now a.given c.open_default.ensures r.0 r.1
+    opened_with_lem default_page default_limit a.table.now given c.open_default.ensures r.answered (r.summary given)

@@ -11,30 +11,30 @@ unfolding released_with
 returns-then-not-agrees c =
     let a = c.args in
     let unsound = released_unsound a.space a.named.address a.named.size a.table.now in
-    not_agreed a.space a.table.now a.given c.agrees.ensures c.if-not-agrees.true _ unsound
+    rw c.refused.ensures (not_agreed a.space a.table.now a.given c.agrees.ensures c.if-not-agrees.true _ unsound)
 
 pub decide_release-requires : goal.decide_release-requires
 decide_release-requires c =
     let a = c.args in
     sound_agreed a.space a.table.now a.given c.agrees.ensures c.if-not-agrees.false
 
-pub carry_out-changed-requires : goal.carry_out-changed-requires
-carry_out-changed-requires c =
+pub carry_out-requires : goal.carry_out-requires
+carry_out-requires c =
     let a = c.args in
-    let d = subst (ReleaseLeads _ _ _) c.in-Change.is c.decide_release.ensures in
+    let d = subst (ReleaseLeads _ _ _) c.in-Ok.is c.decide_release.ensures in
     released_fits a.space a.table.now a.given c.agrees.ensures c.if-not-agrees.false a.named.address a.named.size d
 
-pub returns-in-Change : goal.returns-in-Change
+pub returns-in-Ok : goal.returns-in-Ok
 unfolding released_with
-returns-in-Change c =
+returns-in-Ok c =
     let a = c.args in
-    let d = subst (ReleaseLeads _ _ _) c.in-Change.is c.decide_release.ensures in
-    let left = c.carry_out-changed.ensures in
-    changed_with a.space a.table.now a.given c.agrees.ensures c.if-not-agrees.false _ left d
+    let d = subst (ReleaseLeads _ _ _) c.in-Ok.is c.decide_release.ensures in
+    let left = c.carry_out.ensures in
+    rw c.done.ensures (changed_with a.space a.table.now a.given c.agrees.ensures c.if-not-agrees.false _ left d)
 
-pub returns-in-Refused : goal.returns-in-Refused
+pub returns-in-Err : goal.returns-in-Err
 unfolding released_with
-returns-in-Refused c =
+returns-in-Err c =
     let a = c.args in
-    let d = subst (ReleaseLeads _ _ _) c.in-Refused.is c.decide_release.ensures in
-    refused_with a.space a.table.now a.given c.agrees.ensures c.if-not-agrees.false _ d
+    let d = subst (ReleaseLeads _ _ _) c.in-Err.is c.decide_release.ensures in
+    rw c.refused-in-Err.ensures (refused_with a.space a.table.now a.given c.agrees.ensures c.if-not-agrees.false _ d)

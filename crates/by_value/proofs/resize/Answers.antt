@@ -11,32 +11,32 @@ unfolding resized_with
 returns-then-not-agrees c =
     let a = c.args in
     let unsound = resized_unsound a.space a.change.address a.change.size a.way a.change.by a.table.now in
-    not_agreed a.space a.table.now a.given c.agrees.ensures c.if-not-agrees.true _ unsound
+    rw c.refused.ensures (not_agreed a.space a.table.now a.given c.agrees.ensures c.if-not-agrees.true _ unsound)
 
 pub decide_resize-requires : goal.decide_resize-requires
 decide_resize-requires c =
     let a = c.args in
     sound_agreed a.space a.table.now a.given c.agrees.ensures c.if-not-agrees.false
 
-pub carry_out-changed-requires : goal.carry_out-changed-requires
-carry_out-changed-requires c =
+pub carry_out-requires : goal.carry_out-requires
+carry_out-requires c =
     let a = c.args in
-    let d = subst (ResizeLeads _ _ _) c.in-Change.is c.decide_resize.ensures in
+    let d = subst (ResizeLeads _ _ _) c.in-Ok.is c.decide_resize.ensures in
     let sp = a.space in
     let m = a.change in
     resized_fits sp a.table.now a.given c.agrees.ensures c.if-not-agrees.false m.address m.size a.way m.by d
 
-pub returns-in-Change : goal.returns-in-Change
+pub returns-in-Ok : goal.returns-in-Ok
 unfolding resized_with
-returns-in-Change c =
+returns-in-Ok c =
     let a = c.args in
-    let d = subst (ResizeLeads _ _ _) c.in-Change.is c.decide_resize.ensures in
-    let left = c.carry_out-changed.ensures in
-    changed_with a.space a.table.now a.given c.agrees.ensures c.if-not-agrees.false _ left d
+    let d = subst (ResizeLeads _ _ _) c.in-Ok.is c.decide_resize.ensures in
+    let left = c.carry_out.ensures in
+    rw c.done.ensures (changed_with a.space a.table.now a.given c.agrees.ensures c.if-not-agrees.false _ left d)
 
-pub returns-in-Refused : goal.returns-in-Refused
+pub returns-in-Err : goal.returns-in-Err
 unfolding resized_with
-returns-in-Refused c =
+returns-in-Err c =
     let a = c.args in
-    let d = subst (ResizeLeads _ _ _) c.in-Refused.is c.decide_resize.ensures in
-    refused_with a.space a.table.now a.given c.agrees.ensures c.if-not-agrees.false _ d
+    let d = subst (ResizeLeads _ _ _) c.in-Err.is c.decide_resize.ensures in
+    rw c.refused-in-Err.ensures (refused_with a.space a.table.now a.given c.agrees.ensures c.if-not-agrees.false _ d)

@@ -1,38 +1,31 @@
-use Prim.Native.Nat.{◌+◌, ◌-◌, ◌<◌, ◌*◌, ◌^◌}
-use mathlib.Core.Path.{◌≡◌, sym, ap}
-use native.Mathlib.Nat.{sub-zero}
-use native.Mathlib.Omega.{arith}
-use lib.ListN.{length, drop, get_or, length-drop}
-use lib.Seq.{drop-length}
-use borrow.Author.Rules.{rules}
-use Rattle.little.proofs.LittleLaws.{little_down, little_fits, bytes_drop}
+-- The steps of `little::get`: a byte more is passed at a turn, and the number of those passed then fits.
+use Rattle.std.proofs.Common.{◌≡◌, ◌+◌, ◌*◌, ◌^◌, ◌<◌, [], ◌∷◌, ◌++◌, refl, sym, ◌∙◌, append-nil, arith, rules}
+use Rattle.little.proofs.LittleLaws.{passed_more, passed_fits}
 use Rattle.little.specs.Little.{byte_values, little}
 use Rattle.little.proofs.get.Goals as goal
 
-next : (c : goal.After-shared_slice_known-1)
-    → let bs = c.args.bytes.now in
-    let l = c.loop-i in get_or bs (length bs - 1 - l.i) 0 + byte_values * l.value ≡ little (drop (length bs - (l.i + 1)) bs)
-next c =
-    let bs = c.args.bytes.now in
-    let l = c.loop-i in
-    rw l.invariant.1 (little_down bs l.i (search rules))
+more : (c : goal.After-from) → c.args.bytes.now ≡ c.next.new.self.iter.rest.now ++ c.in-Some.byte.now ∷ c.loop-byte.invariant.0
+more c = passed_more _ _ _ _ _ c.loop-byte.invariant.1.0 c.in-Some.ensures.steps
 
-next_fits : (c : goal.After-shared_slice_known-1)
-    → let bs = c.args.bytes.now in little (drop (length bs - (c.loop-i.i + 1)) bs) < 2 ^ 64
-next_fits c =
-    let bs = c.args.bytes.now in
-    let n = length bs - (c.loop-i.i + 1) in
-    little_fits (drop n bs) (bytes_drop n bs (λ i. (c.shared_slice_known-1.given i).fits)) (simp length-drop (omega arith))
-
-pub loop-i-init : goal.loop-i-init
+fits : (c : goal.After-from) → c.from.result + byte_values * c.loop-byte.value < 2 ^ 64
 unfolding little
-loop-i-init c = (search rules, rw (sub-zero) (sym (ap little (drop-length c.args.bytes.now))))
+fits c =
+    let passed = c.in-Some.byte.now ∷ c.loop-byte.invariant.0 in
+    rw (c.from.ensures, c.loop-byte.invariant.1.1)
+    (passed_fits c.args.bytes.now c.next.new.self.iter.rest.now passed (λ i. (c.type_inv.bytes i).fits) c.requires (more c))
+
+pub loop-byte-init : goal.loop-byte-init
+unfolding little
+loop-byte-init c =
+    let start : c.args.bytes.now ≡ c.into_iter-byte-iterator.result.iter.rest.now = search rules in
+    ([], (start ∙ sym (append-nil _), refl))
 
 pub overflow_mul-value : goal.overflow_mul-value
-overflow_mul-value c = omega (arith, next c, next_fits c)
+overflow_mul-value c = omega (arith, fits c)
 
 pub overflow_add-value : goal.overflow_add-value
-overflow_add-value c = record { fits = rw (← next c) at (next_fits c) }
+overflow_add-value c = omega (arith, fits c)
 
-pub loop-i-preserved : goal.loop-i-preserved
-loop-i-preserved c = (search rules, next c)
+pub loop-byte-preserved : goal.loop-byte-preserved
+unfolding little
+loop-byte-preserved c = (c.in-Some.byte.now ∷ c.loop-byte.invariant.0, (more c, rw (c.from.ensures, c.loop-byte.invariant.1.1)))

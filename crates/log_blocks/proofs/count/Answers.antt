@@ -6,4 +6,4 @@ use borrow.Author.Rules.{rules}
 use Rattle.log_blocks.proofs.count.Goals as goal
 
 pub returns : goal.returns
-returns c = c.wide.ensures.0 ∙ sym (value_byte count_at c.args.block.now (search rules))
+returns c = c.from.ensures ∙ sym (value_byte count_at c.args.block.now (search rules))

@@ -2,7 +2,7 @@
 use mathlib.Core.Path.{◌∙◌, sym}
 use Rattle.pages.proofs.Numbers.{passes, fails}
 use Rattle.log_blocks.proofs.BlockLaws.{short_block, no_records, many_records, head_not, records_not, behind_not}
-use Rattle.log_blocks.proofs.BlockLaws.{Kept, block_checked}
+use Rattle.log_blocks.proofs.BlockLaws.{zerob_all, Kept, block_checked}
 use Rattle.log_blocks.proofs.is_block.Goals as goal
 
 pub returns-then-block-ne-BLOCK_BYTES : goal.returns-then-block-ne-BLOCK_BYTES
@@ -27,7 +27,7 @@ pub returns-then-not-is_zero : goal.returns-then-not-is_zero
 returns-then-not-is_zero c =
     let a = c.args in
     let no = fails c.is_zero.ensures c.if-not-is_zero.true in
-    behind_not a.number a.block.now (rw c.count-count.ensures at no)
+    behind_not a.number a.block.now (rw (zerob_all, c.count-count.ensures) at no)
 
 pub returns : goal.returns
 returns c =
@@ -43,6 +43,6 @@ returns c =
       most = rw (← count) c.if-count-gt-MOST_RECORDS.false;
       head = sym c.get_part.ensures ∙ c.if-get_part-ne0.false;
       records = rw count at records;
-      behind = rw count at behind;
+      behind = rw (zerob_all, count) at behind;
     } in
     c.is_checked.ensures ∙ block_checked a.number a.block.now kept

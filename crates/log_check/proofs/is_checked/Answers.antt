@@ -1,13 +1,7 @@
--- `log_check::is_checked` meets its contract: the first half of the check decides, and then the second.
-use Rattle.log_check.proofs.CheckLaws.{check_fails, check_second}
+-- `log_check::is_checked` meets its contract: the sums that are told are those that are due.
+use Rattle.std.proofs.Common.{◌∙◌}
+use Rattle.log_check.proofs.CheckLaws.{checked}
 use Rattle.log_check.proofs.is_checked.Goals as goal
 
-pub returns-then-first-a : goal.returns-then-first-a
-returns-then-first-a c =
-    let due = c.sum_up-due in
-    check_fails c.args.block.now due.ensures c.short_at-first.ensures.is c.if-first-a.true
-
 pub returns : goal.returns
-returns c =
-    let due = c.sum_up-due in
-    check_second c.args.block.now due.ensures c.short_at-first.ensures.is c.if-first-a.false c.short_at-second.ensures.is
+returns c = c.eq.ensures ∙ checked c.args.block.now c.sum_up-due.ensures c.short_at.ensures.is c.short_at-2.ensures.is

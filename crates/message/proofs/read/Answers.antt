@@ -9,25 +9,20 @@ use Rattle.little.specs.Little.{value_at}
 use Rattle.message.proofs.AnswerLaws.{read_short, read_version, read_field, read_cut, read_done}
 use Rattle.message_bytes.specs.Parts.{head_fields}
 use Rattle.message_fields.specs.Layout.{version_at, strategy_at}
-use Rattle.message_fields.specs.Fields.{version, length_of, read_said, refused_read}
+use Rattle.message_fields.specs.Fields.{version, length_of}
 use Rattle.message_fields.specs.Legal.{legalb}
-use Rattle.refusals.specs.AnswerNumbers.{slice_too_short, other_version, broken_field}
 use Rattle.message.proofs.read.Goals as goal
 use Rattle.message.proofs.read.Goals.{After-is_legal}
 
 pub returns-then-bytes-lt-LEAST_LENGTH : goal.returns-then-bytes-lt-LEAST_LENGTH
-returns-then-bytes-lt-LEAST_LENGTH c =
-    let b = c.args.bytes.now in
-    let r : read_said c.refused.result ≡ refused_read slice_too_short = c.refused.ensures in
-    r ∙ sym (read_short b c.if-bytes-lt-LEAST_LENGTH.true)
+returns-then-bytes-lt-LEAST_LENGTH c = sym (read_short c.args.bytes.now c.if-bytes-lt-LEAST_LENGTH.true)
 
 pub returns-then-bytes-ne-VERSION : goal.returns-then-bytes-ne-VERSION
 returns-then-bytes-ne-VERSION c =
     let b = c.args.bytes.now in
     let n : get_or b version_at 0 ≡ version → ⊥ = c.if-bytes-ne-VERSION.true in
     let v : value_at version_at strategy_at b ≡ get_or b version_at 0 = value_byte version_at b (search rules) in
-    let r : read_said c.refused-then-bytes-ne-VERSION.result ≡ refused_read other_version = c.refused-then-bytes-ne-VERSION.ensures in
-    r ∙ sym (read_version b c.if-bytes-lt-LEAST_LENGTH.false (λ e. n (sym v ∙ e)))
+    sym (read_version b c.if-bytes-lt-LEAST_LENGTH.false (λ e. n (sym v ∙ e)))
 
 -- what the tests up to the rules tell of the bytes
 module _ (c : After-is_legal) where
@@ -40,29 +35,25 @@ module _ (c : After-is_legal) where
   legal_told : (t : Bool) → c.is_legal.result ≡ t → legalb (head_fields c.args.bytes.now) ≡ t
   legal_told t e = sym (ap legalb c.head_of-head.ensures) ∙ sym c.is_legal.ensures ∙ e
 
-  length_told : c.length_of-needed.result ≡ length_of (head_fields c.args.bytes.now)
-  length_told = c.length_of-needed.ensures ∙ ap length_of c.head_of-head.ensures
+pub returns-then-not-is_legal : goal.returns-then-not-is_legal
+returns-then-not-is_legal c =
+    let asked = (goal.at.returns-then-not-is_legal c).After-is_legal in
+    sym (read_field c.args.bytes.now c.if-bytes-lt-LEAST_LENGTH.false (version_told asked) (legal_told asked _ c.if-not-is_legal.true))
 
 pub returns-then-bytes-needed : goal.returns-then-bytes-needed
 returns-then-bytes-needed c =
     let b = c.args.bytes.now in
     let asked = (goal.at.returns-then-bytes-needed c).After-is_legal in
+    let needed = c.length_of-needed.ensures ∙ ap length_of c.head_of-head.ensures in
     let short : length b < c.length_of-needed.result = c.if-bytes-needed.true in
-    let r : read_said c.refused-then-bytes-needed.result ≡ refused_read slice_too_short = c.refused-then-bytes-needed.ensures in
-    r ∙ sym (read_cut b c.if-bytes-lt-LEAST_LENGTH.false (version_told asked) (legal_told asked _ c.if-is_legal.true) (rw (length_told asked) at short))
-
-pub returns-then-is_legal : goal.returns-then-is_legal
-returns-then-is_legal c =
-    let b = c.args.bytes.now in
-    let asked = (goal.at.returns-then-is_legal c).After-is_legal in
-    let fits : c.length_of-needed.result ≤ length b = c.if-bytes-needed.false in
-    let done =
-    read_done b c.if-bytes-lt-LEAST_LENGTH.false (version_told asked) (legal_told asked _ c.if-is_legal.true) (rw (length_told asked) at fits) in
-    sym (rw (← c.with_addresses-found.ensures) at done)
+    sym (read_cut b c.if-bytes-lt-LEAST_LENGTH.false (version_told asked) (legal_told asked _ c.if-not-is_legal.false) (rw needed at short))
 
 pub returns : goal.returns
 returns c =
     let b = c.args.bytes.now in
     let asked = (goal.at.returns c).After-is_legal in
-    let r : read_said c.refused-2.result ≡ refused_read broken_field = c.refused-2.ensures in
-    r ∙ sym (read_field b c.if-bytes-lt-LEAST_LENGTH.false (version_told asked) (legal_told asked _ c.if-is_legal.false))
+    let needed = c.length_of-needed.ensures ∙ ap length_of c.head_of-head.ensures in
+    let fits : c.length_of-needed.result ≤ length b = c.if-bytes-needed.false in
+    let done =
+    read_done b c.if-bytes-lt-LEAST_LENGTH.false (version_told asked) (legal_told asked _ c.if-not-is_legal.false) (rw needed at fits) in
+    sym (rw (← c.with_addresses.ensures) at done)

@@ -11,7 +11,7 @@ use Rattle.message.proofs.rest.Goals as goal
 use Rattle.message.proofs.rest.Goals.{After-follows_at-start}
 
 place : (c : After-follows_at-start) → c.follows_at-start.result ≡ follows_at (reading c.args.bytes.now)
-place c = c.follows_at-start.ensures ∙ ap follows_at c.read-message.ensures
+place c = c.follows_at-start.ensures ∙ ap follows_at c.read.ensures
 
 starts : (c : After-follows_at-start) → c.follows_at-start.result ≤ length c.args.bytes.now
 starts c = rw (place c) (follows_fits c.args.bytes.now)

@@ -1,6 +1,5 @@
 -- `message::write` meets its contract: each return is the answer after the tests that led to it, and only the last step writes.
-use mathlib.Core.Bool.{true}
-use mathlib.Core.Path.{◌≡◌, sym, ◌∙◌}
+use mathlib.Core.Path.{sym, ◌∙◌}
 use native.Mathlib.Omega.{arith}
 use lib.ListN.{get_or}
 use borrow.Author.Rules.{rules}
@@ -27,18 +26,17 @@ held c =
       large = λ i. let e : Fits w64 (get_or c.args.fields.large i 0) = search rules in e.fits;
     }
 
+pub returns-then-not-is_legal : goal.returns-then-not-is_legal
+returns-then-not-is_legal c =
+    let legal = sym c.is_legal.ensures ∙ c.if-not-is_legal.true in
+    wrote_field c.args.fields c.args.out.now (held (goal.at.returns-then-not-is_legal c).Start) legal
+
 pub returns-then-out-needed : goal.returns-then-out-needed
 returns-then-out-needed c =
-    let told : c.is_legal.result ≡ true = c.if-is_legal.true in
-    let legal = sym c.is_legal.ensures ∙ told in
+    let legal = sym c.is_legal.ensures ∙ c.if-not-is_legal.false in
     wrote_short c.args.fields c.args.out.now (held (goal.at.returns-then-out-needed c).Start) legal (omega arith)
-
-pub returns-then-is_legal : goal.returns-then-is_legal
-returns-then-is_legal c =
-    let legal = sym c.is_legal.ensures ∙ c.if-is_legal.true in
-    wrote_done c.args.fields c.args.out.now (held (goal.at.returns-then-is_legal c).Start) legal (omega arith) c.put_fields.ensures
 
 pub returns : goal.returns
 returns c =
-    let legal = sym c.is_legal.ensures ∙ c.if-is_legal.false in
-    wrote_field c.args.fields c.args.out.now (held (goal.at.returns c).Start) legal
+    let legal = sym c.is_legal.ensures ∙ c.if-not-is_legal.false in
+    wrote_done c.args.fields c.args.out.now (held (goal.at.returns c).Start) legal (omega arith) c.put_fields.ensures

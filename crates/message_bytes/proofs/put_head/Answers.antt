@@ -24,5 +24,5 @@ returns c =
     (laid_byte persist_at f.persist h₂ p (simp length-set (omega arith)))
     c.put_part.ensures
     c.put_part-2.ensures
-    c.put_part-3.ensures
+    (rw c.from.ensures at c.put_part-3.ensures)
     c.put_part-4.ensures

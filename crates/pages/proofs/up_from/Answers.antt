@@ -7,6 +7,6 @@ use Rattle.pages.proofs.up_from.Goals as goal
 pub returns-then-over-eq0 : goal.returns-then-over-eq0
 returns-then-over-eq0 c = sym (up_from_of _ (omega arith) (record { none_over = c.if-over-eq0.true }))
 
-pub returns : goal.returns
+pub returns-else-over-eq0 : goal.returns-else-over-eq0
 unfolding left
-returns c = sym (up_from_left _ (omega arith) (λ b. c.if-over-eq0.false b.none_over))
+returns-else-over-eq0 c = sym (up_from_left _ (omega arith) (λ b. c.if-over-eq0.false b.none_over))

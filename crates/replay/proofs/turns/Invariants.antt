@@ -1,9 +1,6 @@
--- `replay::turns` is safe and ends: each turn keeps what is carried, and one turn less is left.
+-- `replay::turns` is safe: each turn keeps what is carried.
 use Rattle.replay.specs.Reading.{Carried}
 use Rattle.replay.proofs.turns.Given as goal
 
-abbrev pub invariant-loop-left : goal.invariant-loop-left
-invariant-loop-left l = Carried l.reading
-
-abbrev pub decreases-loop-left : goal.decreases-loop-left
-decreases-loop-left l = l.left
+abbrev pub invariant-loop : goal.invariant-loop
+invariant-loop l = Carried l.reading

@@ -5,13 +5,13 @@ use Rattle.totals.specs.Summary.{largest_of}
 use Rattle.running.proofs.largest_each.Goals as goal
 
 pub largest_after-requires : goal.largest_after-requires
-largest_after-requires c = let pre = c.requires in (pre.countable.room, largest_beside pre SmallMetadata)
+largest_after-requires c = largest_beside c.requires SmallMetadata
 
 pub largest_after-requires-2 : goal.largest_after-requires-2
-largest_after-requires-2 c = let pre = c.requires in (pre.countable.room, largest_beside pre SmallRaw)
+largest_after-requires-2 c = largest_beside c.requires SmallRaw
 
 pub largest_after-requires-3 : goal.largest_after-requires-3
-largest_after-requires-3 c = let pre = c.requires in (pre.countable.room, largest_beside pre Large)
+largest_after-requires-3 c = largest_beside c.requires Large
 
 pub returns : goal.returns
 unfolding largest_of

@@ -23,7 +23,7 @@ loop-i-preserved c =
     let l = c.loop-i in
     let among = c.loop-i-test.true in
     let read = c.words_at-entry.ensures in
-    let on = sym c.advance.ensures ∙ c.in-On.is in
+    let on = sym c.advance.ensures ∙ c.in-Some.is in
     standing_on c.requires l.invariant among _ read _ on
 
 pub returns : goal.returns

@@ -1,8 +1,7 @@
--- `words::put_word` meets its contract: eight bytes laid one after the other are the bytes of the word.
-use Rattle.little.proofs.LittleLaws.{stored, stored_is}
-use borrow.Author.Rules.{rules}
+-- `words::put_word` meets its contract: the eight bytes that the standard library makes of a word are its bytes.
+use Rattle.std.proofs.Common.{◌∙◌}
+use Rattle.little.proofs.LittleLaws.{word_bytes_of}
 use Rattle.words.proofs.put_word.Goals as goal
 
 pub returns : goal.returns
-unfolding stored
-returns c = stored_is 8 0 c.args.out.now c.args.word (search rules)
+returns c = c.copy_from_slice.ensures.after ∙ c.to_le_bytes.ensures ∙ word_bytes_of c.args.word

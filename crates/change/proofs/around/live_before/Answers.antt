@@ -1,30 +1,20 @@
-use mathlib.Core.Path.{◌≡◌, sym, ap, ◌∙◌}
-use native.Mathlib.Omega.{arith}
-use borrow.Author.Rules.{rules}
+use Rattle.std.proofs.Common.{◌≡◌, ◌+◌, ◌-◌, sym, ap, ◌∙◌, arith}
 use Rattle.change.proofs.AroundLaws.{former_live, former_free}
 use Rattle.change.specs.Change.{former_of}
 use Rattle.change.proofs.around.live_before.Goals as goal
 
 pub returns-in-Live : goal.returns-in-Live
 returns-in-Live c =
-    let l = c.loop-from in
-    let some = c.loop-from-test.true in
-    let read = c.piece_at-piece.ensures in
-    let live = c.in-Live.is in
-    sym (former_live _ _ _ _ some read live) ∙ l.invariant.1
+    let l = c.loop-k in
+    let some = c.loop-k-test.true in
+    let here : l.k - 1 + 1 ≡ l.k = omega arith in
+    rw here (sym (former_live _ _ _ _ some c.piece_at-piece.ensures c.in-Live.is) ∙ l.invariant)
 
-pub loop-from-preserved : goal.loop-from-preserved
-loop-from-preserved c =
-    let l = c.loop-from in
-    let some = c.loop-from-test.true in
-    let read = c.piece_at-piece.ensures in
-    let free = c.in_default.is in
-    (search rules, sym (former_free _ _ _ _ some read free) ∙ l.invariant.1)
+pub loop-k-preserved : goal.loop-k-preserved
+loop-k-preserved c = sym (former_free _ _ _ _ c.loop-k-test.true c.piece_at-piece.ensures c.in_default.is) ∙ c.loop-k.invariant
 
 pub returns : goal.returns
 unfolding former_of
 returns c =
-    let l = c.loop-from in
-    let table = c.args.table.now in
-    let e : l.from ≡ 0 = omega arith in
-    sym (ap (former_of table) e) ∙ l.invariant.1
+    let e : c.loop-k.k ≡ 0 = omega arith in
+    sym (ap (former_of c.args.table.now) e) ∙ c.loop-k.invariant

@@ -9,4 +9,4 @@ pub returns : goal.returns
 returns c =
     let among = c.if-n-to.false in
     let read = c.piece_at-next.ensures in
-    rw (closing_next _ _ _ _ _ _ _ among read, ← c.class_of.ensures) c.gap_of.ensures
+    rw (closing_next _ _ _ _ _ _ _ among read, ← c.class.ensures) c.gap_of.ensures

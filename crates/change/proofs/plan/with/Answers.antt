@@ -27,6 +27,6 @@ pub returns : goal.returns
 returns c =
     let former = c.live_before-former.ensures in
     let next = c.live_from-to.ensures in
-    let class = c.class_of-class.ensures in
+    let class = c.class-class.ensures in
     let gap = c.gap_of-front.ensures in
     plan_with_lem c.requires.0 _ _ former next c.args.piece _ _ _ _ class gap c.close.ensures c.planned.ensures

@@ -8,8 +8,8 @@ use Rattle.log_blocks.proofs.records.record_in.Goals as goal
 pub returns : goal.returns
 returns c =
     let b = c.args.bytes.now in
-    let operation = c.wide.ensures.0 ∙ sym (value_byte operation_at b (search rules)) in
-    let code = c.wide-2.ensures.0 ∙ sym (value_byte code_at b (search rules)) in
-    let refusal = c.wide-3.ensures.0 ∙ sym (value_byte refusal_at b (search rules)) in
+    let operation = c.from.ensures ∙ sym (value_byte operation_at b (search rules)) in
+    let code = c.from-2.ensures ∙ sym (value_byte code_at b (search rules)) in
+    let refusal = c.from-3.ensures ∙ sym (value_byte refusal_at b (search rules)) in
     rw (operation, code, refusal, c.get_part.ensures, c.get_word.ensures, c.get_word-2.ensures)
     (rw (c.get_word-3.ensures, c.get_word-4.ensures) refl)

@@ -14,7 +14,7 @@ returns c =
     let a = c.args in
     let w = c.blank-words.result in
     let rest = drop c.part-lent.result w in
-    rw (c.of_number.ensures, c.open_number.ensures)
+    rw (c.of_number.ensures, c.number_of.ensures)
     (ap (λ (o : Outcome). asked_as a.len (o.words ++ rest) (left_as Done o)) c.open-done.ensures
     ∙ (ap (opened_in a.page a.limit a.len w) c.part-lent.ensures.is
     ∙ ap (λ (v : List ℕ). opened_in a.page a.limit a.len v (part_of a.len)) c.blank-words.ensures))

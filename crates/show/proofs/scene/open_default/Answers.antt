@@ -9,6 +9,6 @@ use Rattle.show.proofs.scene.open_default.Goals as goal
 pub returns : goal.returns
 unfolding opened_over
 returns c =
-    rw (c.of_number.ensures, c.open_number.ensures)
+    rw (c.of_number.ensures, c.number_of.ensures)
     (ap (λ (o : Outcome). asked_as scene_words o.words (left_as Done o)) c.open_default-done.ensures
     ∙ ap (opened_over default_page default_limit) c.blank-words.ensures)

@@ -9,7 +9,7 @@ pub returns-then-not-is_sound : goal.returns-then-not-is_sound
 returns-then-not-is_sound c =
     let a = c.args in
     let unsound = fails c.is_sound.ensures c.if-not-is_sound.true in
-    sym (allocated_unsound a.self a.code a.size a.table.now unsound)
+    rw c.answers.ensures (sym (allocated_unsound a.self a.code a.size a.table.now unsound))
 
 pub decide_allocate-requires : goal.decide_allocate-requires
 decide_allocate-requires c =

@@ -9,7 +9,7 @@ pub returns-then-not-is_sound : goal.returns-then-not-is_sound
 returns-then-not-is_sound c =
     let a = c.args in
     let unsound = fails c.is_sound.ensures c.if-not-is_sound.true in
-    sym (listed_unsound a.self a.manager a.table.now a.out.now unsound)
+    rw c.answers.ensures (sym (listed_unsound a.self a.manager a.table.now a.out.now unsound))
 
 pub list_sound-requires : goal.list_sound-requires
 list_sound-requires c =

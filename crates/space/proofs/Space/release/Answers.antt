@@ -9,7 +9,7 @@ pub returns-then-not-is_sound : goal.returns-then-not-is_sound
 returns-then-not-is_sound c =
     let a = c.args in
     let unsound = fails c.is_sound.ensures c.if-not-is_sound.true in
-    sym (released_unsound a.self a.address a.size a.table.now unsound)
+    rw c.answers.ensures (sym (released_unsound a.self a.address a.size a.table.now unsound))
 
 pub decide_release-requires : goal.decide_release-requires
 decide_release-requires c =

@@ -9,7 +9,7 @@ pub returns-then-not-is_sound : goal.returns-then-not-is_sound
 returns-then-not-is_sound c =
     let a = c.args in
     let unsound = fails c.is_sound.ensures c.if-not-is_sound.true in
-    sym (resized_unsound a.self a.address a.size a.way a.by a.table.now unsound)
+    rw c.answers.ensures (sym (resized_unsound a.self a.address a.size a.way a.by a.table.now unsound))
 
 pub decide_resize-requires : goal.decide_resize-requires
 decide_resize-requires c =

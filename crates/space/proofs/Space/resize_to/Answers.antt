@@ -1,6 +1,6 @@
 -- `space::Space::resize_to` meets its contract: the table is settled with the piece at its new size.
 use native.Mathlib.Omega.{arith}
-use Rattle.space.proofs.GiveLaws.{found_lt, settle_fits, resized_change, resized_full}
+use Rattle.space.proofs.GiveLaws.{found_lt, settle_fits, resized_decided}
 use Rattle.space.proofs.Space.resize_to.Goals as goal
 
 pub overflow_add-i : goal.overflow_add-i
@@ -12,10 +12,5 @@ with-requires c =
     let r = h.0.sound.ranges in
     (settle_fits _ _ _ _ h.0, omega (arith, h.1, r.limit_largest, r.page.largest))
 
-pub returns-in-Ready : goal.returns-in-Ready
-returns-in-Ready c =
-    resized_change _ _ _ _ c.requires.0 _ c.with.ensures c.in-Ready.is
-
-pub returns-in-TableFull : goal.returns-in-TableFull
-returns-in-TableFull c =
-    resized_full _ _ _ _ c.requires.0 _ c.with.ensures c.in-TableFull.is
+pub returns : goal.returns
+returns c = rw c.ok_or.ensures.value (resized_decided _ _ _ _ c.requires.0 _ _ c.with.ensures)

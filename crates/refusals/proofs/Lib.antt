@@ -1,0 +1,2 @@
+-- The laws that the proofs of the higher crates cite.
+pub mod AnswerLaws
