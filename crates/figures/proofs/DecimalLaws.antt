@@ -1,22 +1,26 @@
--- Laws of the value of digits, in the order of specs/Decimal.antt, the round trip, and how many digits a number has.
+-- Laws of the value of digits, in the order of specs/Decimal.antt, the round trip, what `Display` writes, and how many digits a number has.
 -- Not here: laws of `every` (LineLaws).
 use Prim.Native.Nat.{ℕ, zero, suc, ◌+◌, ◌-◌, ◌*◌, ◌/◌, ◌%◌, ◌^◌, ◌<◌, ◌≤◌}
 use mathlib.Core.Bool.{Bool, true, false, cond}
-use mathlib.Core.List.{List, [], ◌∷◌, ◌++◌}
-use mathlib.Core.Path.{◌≡◌, refl, ◌∙◌}
+use mathlib.Core.List.{List, [], ◌∷◌, ◌++◌, append-nil}
+use mathlib.Core.Path.{◌≡◌, refl, ap, ◌∙◌}
 use native.Mathlib.Decide.{dec_le}
 use native.Mathlib.Nat.{pow-suc, pow-le-pow_right, lt_of_not-le, div-lt_iff_lt-mul, div-add-mod', mod-lt}
 use native.Mathlib.Numerals.{add-one}
 use native.Mathlib.Omega.{arith}
 use lib.Dec.{leb, ltb}
-use lib.ListN.{length, drop, get_or, drop_of_length-le, length-append}
+use lib.ListN.{length, drop, get_or, replicate, drop_of_length-le, length-append}
 use lib.Seq.{drop-cons}
+use lib.Utf8.{encode}
 use borrow.Author.Tests.{le-leb, lt-ltb, le-ltb, ne_eqb, leb-true, ltb-false}
 use Rattle.std.proofs.Common.{Some, None, Ok, Err}
+use Rattle.std.proofs.lemmas.Fmt.{decimal_by_steps}
+use Rattle.std.specs.Fmt.{decimal, padded_integral, char_count}
+use Rattle.std.specs.List.{repeat}
 use Rattle.io.specs.Digits.{last_digits, hex_digit_ascii, IsDigitCount}
 use Rattle.pages.proofs.Numbers.{and_left, and_right}
 use Rattle.figures.specs.Laid.{number_bytes}
-use Rattle.figures.specs.Decimal.{digitb, value_from, too_large, longer_by, fitting, RoundTrip}
+use Rattle.figures.specs.Decimal.{digitb, value_from, too_large, longer_by, fitting, RoundTrip, ShownInFewest, ShownRoundTrip, ShownInColumn}
 use Rattle.script.specs.Line.{every}
 use Rattle.figures.specs.declared.numbers.NumberError.TheVariants.{TooLarge}
 
@@ -80,6 +84,47 @@ pub round_trip : RoundTrip
 round_trip n k h f =
     let some = digits_some k n f.0 in
     rw (ne_eqb (length (last_digits 10 k n)) 0 (λ e. omega arith), digits_every k n, digits_value k n f.1) (fitting_is n h)
+
+-- ---- what `Display` writes
+
+-- a number from 10 on has a digit more than its tenth
+count_next : (n k : ℕ) → 10 ≤ n → IsDigitCount 10 1 (n / 10) k → IsDigitCount 10 1 n (suc k)
+count_next n zero l f = absurd (omega (arith, f.0))
+count_next n (suc zero) l f = (omega arith, omega (arith, f.1), λ m. l)
+count_next n (suc (suc j)) l f =
+    let less : suc (suc (suc j)) - 1 ≡ suc (suc j) = omega arith in
+    let tenth_less : suc (suc j) - 1 ≡ suc j = omega arith in
+    let least : 10 ^ suc j ≤ n / 10 = rw tenth_less at f.2 (omega arith) in
+    (omega arith, rw (pow-suc 10 (suc (suc j))) (omega (arith, f.1)), λ m. rw (less, pow-suc 10 (suc j)) (omega arith))
+
+pub shown_in_fewest : ShownInFewest
+shown_in_fewest = decimal_by_steps (λ m ds. IsDigitCount 10 1 m (length ds) × (ds ≡ last_digits 10 (length ds) m)) one more
+  where
+    one : (m : ℕ) → m < 10 → IsDigitCount 10 1 m 1 × ((48 + m) ∷ [] ≡ last_digits 10 1 m)
+    one m l = let same : m % 10 ≡ m = omega arith in ((omega arith, omega arith, λ g. absurd (omega arith)), rw (glyph_digit m, same) refl)
+
+    more : (m : ℕ) (ds : List ℕ) → 10 ≤ m → IsDigitCount 10 1 (m / 10) (length ds) × (ds ≡ last_digits 10 (length ds) (m / 10))
+        → IsDigitCount 10 1 m (length (ds ++ ((48 + m % 10) ∷ []))) × (ds ++ ((48 + m % 10) ∷ []) ≡ last_digits 10 (length (ds ++ ((48 + m % 10) ∷ []))) m)
+    more m ds l f =
+        let longer : length (ds ++ ((48 + m % 10) ∷ [])) ≡ suc (length ds) = omega (arith, length-append ds ((48 + m % 10) ∷ [])) in
+        rw longer (count_next m (length ds) l f.0, rw (glyph_digit m) (ap (λ (xs : List ℕ). xs ++ ((48 + m % 10) ∷ [])) f.1))
+
+pub shown_round_trip : ShownRoundTrip
+shown_round_trip n h = let f = shown_in_fewest n h in rw f.1 (round_trip n (length (decimal n)) h f.0)
+
+-- blanks by `repeat` and by `replicate`
+repeated : (k : ℕ) → repeat {A = ℕ} k (32 ∷ []) ≡ replicate k 32
+repeated zero = refl
+repeated (suc k) = ap (λ (xs : List ℕ). 32 ∷ xs) (repeated k)
+
+pub shown_in_column : ShownInColumn
+unfolding padded_integral char_count encode
+shown_in_column n zero = let none : 0 - length (decimal n) ≡ 0 = omega arith in rw none refl
+shown_in_column n (suc w) =
+    let k : ℕ = suc w - length (decimal n) in
+    let behind : k - 0 - 0 - (k - 0 - 0) ≡ 0 = omega arith in
+    let plain : k - 0 - 0 ≡ k = omega arith in
+    rw (ne_eqb (suc w) 0 (λ e. omega arith), behind, plain, repeated k) (simp append-nil)
 
 -- ---- digits
 

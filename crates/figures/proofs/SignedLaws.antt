@@ -1,4 +1,4 @@
--- Laws of signed numbers: what a word says, in the order of specs/Signed.antt; the round trip.
+-- Laws of signed numbers: what a word says, in the order of specs/Signed.antt; the round trips.
 --
 -- Not here: laws of the digits (DecimalLaws).
 use Prim.Native.Nat.{ℕ, suc, ◌≤◌, ◌<◌}
@@ -10,12 +10,13 @@ use lib.ListN.{length, get_or}
 use lib.IntN.{pos, negsuc, neg_ℤ}
 use borrow.Author.Tests.{le-leb, lt-ltb, ne_eqb}
 use Rattle.std.proofs.Common.{Ok}
+use Rattle.std.specs.Fmt.{decimal}
 use Rattle.io.specs.Digits.{last_digits}
 use Rattle.pages.proofs.Numbers.{and_left}
 use Rattle.script.specs.Line.{every}
-use Rattle.figures.proofs.DecimalLaws.{round_trip, digits_some, digits_every, digit_low}
+use Rattle.figures.proofs.DecimalLaws.{round_trip, digits_some, digits_every, digit_low, shown_in_fewest}
 use Rattle.figures.specs.Decimal.{digitb, number_said}
-use Rattle.figures.specs.Signed.{minus, most_below, positive, negative, signed_said, SignedRoundTrip}
+use Rattle.figures.specs.Signed.{minus, most_below, positive, negative, signed_said, SignedRoundTrip, SignedShownRoundTrip}
 
 -- ---- what a word says
 
@@ -44,3 +45,12 @@ signed_round_trip (pos n) k f h =
 signed_round_trip (negsuc m) k f h =
     let said = round_trip (suc m) k (omega (arith, f.sfits)) h in
     rw said (negative_is (suc m) f.sfits)
+
+-- of what `Display` writes: a sign where there is one, and the digits of the distance from 0
+pub signed_shown_round_trip : SignedShownRoundTrip
+signed_shown_round_trip (pos n) f =
+    let shown = shown_in_fewest n (omega (arith, f.sfits)) in
+    rw shown.1 (signed_round_trip (pos n) (length (decimal n)) f shown.0)
+signed_shown_round_trip (negsuc m) f =
+    let shown = shown_in_fewest (suc m) (omega (arith, f.sfits)) in
+    rw shown.1 (signed_round_trip (negsuc m) (length (decimal (suc m))) f shown.0)

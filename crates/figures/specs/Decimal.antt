@@ -8,9 +8,13 @@
 --   number_said xs     what a word says: no number where it has no bytes, or one that is no digit
 --
 --   RoundTrip          what `io::decimal` prints of a number says that number
+--   ShownInFewest      what std's `Display` writes of a number, `decimal n`, are its digits, as few as hold it: as `io::decimal` prints it
+--   ShownRoundTrip     what `Display` writes of a number says that number
+--   ShownInColumn      in a column of w places, `{:>w}`, it writes blanks before these digits, and nothing else
 --
--- Laws, and the proof of RoundTrip, are in proofs/DecimalLaws.antt.
-use Rattle.std.specs.Prelude.{◌≡◌, Option, Some, None, Result, Ok, Err, Bool, cond, ◌&&◌, List, [], ◌∷◌, ℕ, ◌+◌, ◌-◌, ◌*◌, ◌<◌, leb, ltb, eqb, length}
+-- Laws, and the proofs of these four, are in proofs/DecimalLaws.antt.
+use Rattle.std.specs.Prelude.{◌≡◌, Option, Some, None, Result, Ok, Err, Bool, cond, ◌&&◌, List, [], ◌∷◌, ◌++◌, ℕ, ◌+◌, ◌-◌, ◌*◌, ◌^◌, ◌<◌, leb, ltb, eqb, length, replicate, decimal}
+use Rattle.std.specs.Fmt.{format_spec, styled_decimal}
 use Rattle.io.specs.Digits.{last_digits, IsDigitCount}
 use Rattle.figures.specs.declared.numbers.NumberError.{NumberError}
 use Rattle.figures.specs.declared.numbers.NumberError.TheVariants.{TooLarge, NoNumber}
@@ -37,3 +41,12 @@ number_said xs = cond (eqb (length xs) 0) (Err NoNumber) (cond (every digitb xs)
 
 abbrev pub RoundTrip : Type 0
 RoundTrip = (n k : ℕ) → n < too_large → IsDigitCount 10 1 n k → number_said (last_digits 10 k n) ≡ Ok n
+
+abbrev pub ShownInFewest : Type 0
+ShownInFewest = (n : ℕ) → n < too_large → IsDigitCount 10 1 n (length (decimal n)) × (decimal n ≡ last_digits 10 (length (decimal n)) n)
+
+abbrev pub ShownRoundTrip : Type 0
+ShownRoundTrip = (n : ℕ) → n < too_large → number_said (decimal n) ≡ Ok n
+
+abbrev pub ShownInColumn : Type 0
+ShownInColumn = (n w : ℕ) → styled_decimal (format_spec 32 3 0 w (2 ^ 64 - 1)) n ≡ replicate (w - length (decimal n)) 32 ++ decimal n

@@ -7,10 +7,12 @@
 --   signed_said xs     what a word says
 --   sign_of z           what stands before the digits of z: a minus sign where z is negative
 --
---   SignedRoundTrip    a number's sign, and what `io::decimal` prints of its distance from 0, say that number
+--   SignedRoundTrip        a number's sign, and what `io::decimal` prints of its distance from 0, say that number
+--   SignedShownRoundTrip   what std's `Display` writes of a signed number, `signed_decimal z`, says that number
 --
--- Laws, and the proof of SignedRoundTrip, are in proofs/SignedLaws.antt.
+-- Laws, and the proofs of both, are in proofs/SignedLaws.antt.
 use Rattle.std.specs.Prelude.{◌≡◌, Result, Ok, Err, cond, List, [], ◌∷◌, ◌++◌, ℕ, leb, ltb, eqb, ℤ, pos, negsuc, neg_ℤ, nat_abs}
+use Rattle.std.specs.Fmt.{signed_decimal}
 use Rattle.std.specs.Int.{w64}
 use Rattle.std.proofs.Common.{SFits}
 use Rattle.io.specs.Digits.{last_digits, IsDigitCount}
@@ -42,3 +44,6 @@ sign_of (negsuc n) = minus ∷ []
 
 abbrev pub SignedRoundTrip : Type 0
 SignedRoundTrip = (z : ℤ) (k : ℕ) → SFits w64 z → IsDigitCount 10 1 (nat_abs z) k → signed_said (sign_of z ++ last_digits 10 k (nat_abs z)) ≡ Ok z
+
+abbrev pub SignedShownRoundTrip : Type 0
+SignedShownRoundTrip = (z : ℤ) → SFits w64 z → signed_said (signed_decimal z) ≡ Ok z

@@ -1,5 +1,5 @@
 // One line: its call is named, its words are counted, its numbers are read, and then the call is made. What is wrong is said, and changes nothing.
-ghost use Rattle.std.specs.Prelude.{◌≤◌, length};
+ghost use Rattle.std.specs.Prelude.{◌≡◌, ◌≤◌, length, IfOk};
 ghost use Rattle.filespace.specs.Lent.{line_bytes, table_words};
 
 use crate::calls::Call;
@@ -10,7 +10,7 @@ use crate::{TABLE_WORDS, calls, give, info, run_summary};
 use figures::numbers::number_of;
 use figures::signed::signed_of;
 use say::{map, report, sheet, tables};
-use script::words::next_word;
+use script::words::{is_text, next_word};
 
 // What a word says: a name of the call, or a number.
 fn word_number(call: Call, is_first: bool, word: &[u8]) -> Result<u64, Wrong> {
@@ -21,7 +21,9 @@ fn word_number(call: Call, is_first: bool, word: &[u8]) -> Result<u64, Wrong> {
 }
 
 // As many numbers as there are places for them, and what stands behind them.
-fn read_numbers<'a>(call: Call, line: &'a [u8], args: &mut [u64]) -> Result<&'a [u8], Wrong> {
+fn read_numbers<'a>(call: Call, line: &'a [u8], args: &mut [u64]) -> Result<&'a [u8], Wrong>
+    ensures { IfOk result (λ rest. length rest.now ≤ length line.now) }
+{
     let mut rest = line;
     for i in 0..args.len() {
         let (word, behind) = next_word(rest);
@@ -67,7 +69,9 @@ fn answer_numbers(
 }
 
 // The numbers of a summary, of which the last has a sign.
-fn answer_summary(run: Run, line: &[u8]) -> Result<Run, Wrong> {
+fn answer_summary(run: Run, line: &[u8]) -> Result<Run, Wrong>
+    ensures { IfOk result (λ r. r.used ≡ run.used) }
+{
     let mut totals = [0u64; TOTALS];
     let rest = read_numbers(Call::Summary, line, &mut totals)?;
     let (word, _) = next_word(rest);
@@ -78,10 +82,12 @@ fn answer_summary(run: Run, line: &[u8]) -> Result<Run, Wrong> {
 // The one word that `show` takes.
 fn show(run: Run, line: &[u8], table: &[u64]) -> Result<Run, Wrong> {
     let (word, _) = next_word(line);
-    match word {
-        b"words" => tables::show_words(run.stdout, table),
-        b"summary" => sheet::numbers(run.stdout, run.summary),
-        _ => return Err(Wrong::NoCall),
+    if is_text(word, b"words") {
+        tables::show_words(run.stdout, table);
+    } else if is_text(word, b"summary") {
+        sheet::numbers(run.stdout, run.summary);
+    } else {
+        return Err(Wrong::NoCall);
     }
     Ok(run)
 }
@@ -136,7 +142,7 @@ pub fn answer(run: Run, line: &[u8], table: &mut [u64; TABLE_WORDS]) -> Run
     requires { length line.now ≤ line_bytes }
 {
     answered(run, line, table).unwrap_or_else(|why| {
-        report::wrong(run.stdout, run.line, why);
+        report::fault(run.stdout, run.line, why);
         run
     })
 }

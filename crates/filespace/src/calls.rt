@@ -1,4 +1,5 @@
 // The calls by their names, and how many words each takes.
+use script::words::is_text;
 use space::place::{METADATA, RAW};
 
 // The manager of large sections, as a listing names it.
@@ -25,27 +26,31 @@ pub enum Call {
     Sheet,
 }
 
+const NAMES: [(&str, Call); 17] = [
+    ("open", Call::Open),
+    ("default", Call::Default),
+    ("allocate", Call::Allocate),
+    ("release", Call::Release),
+    ("extend", Call::Extend),
+    ("shorten", Call::Shorten),
+    ("list", Call::List),
+    ("state", Call::State),
+    ("words", Call::Words),
+    ("table", Call::Table),
+    ("map", Call::Map),
+    ("show", Call::Show),
+    ("read", Call::Read),
+    ("write", Call::Write),
+    ("summary", Call::Summary),
+    ("fresh", Call::Fresh),
+    ("sheet", Call::Sheet),
+];
+
 pub fn call_of(word: &[u8]) -> Option<Call> {
-    match word {
-        b"open" => Some(Call::Open),
-        b"default" => Some(Call::Default),
-        b"allocate" => Some(Call::Allocate),
-        b"release" => Some(Call::Release),
-        b"extend" => Some(Call::Extend),
-        b"shorten" => Some(Call::Shorten),
-        b"list" => Some(Call::List),
-        b"state" => Some(Call::State),
-        b"words" => Some(Call::Words),
-        b"table" => Some(Call::Table),
-        b"map" => Some(Call::Map),
-        b"show" => Some(Call::Show),
-        b"read" => Some(Call::Read),
-        b"write" => Some(Call::Write),
-        b"summary" => Some(Call::Summary),
-        b"fresh" => Some(Call::Fresh),
-        b"sheet" => Some(Call::Sheet),
-        _ => None,
-    }
+    let (_, call) = NAMES
+        .iter()
+        .find(|(name, _)| is_text(word, name.as_bytes()))?;
+    Some(*call)
 }
 
 impl Call {
@@ -66,10 +71,10 @@ impl Call {
 
     // The number that its first word names: a type, or a manager.
     pub fn named(self, word: &[u8]) -> Option<u64> {
-        match (self, word) {
-            (Call::Allocate | Call::List, b"metadata") => Some(METADATA),
-            (Call::Allocate | Call::List, b"raw") => Some(RAW),
-            (Call::List, b"large") => Some(LARGE),
+        match self {
+            Call::Allocate | Call::List if is_text(word, b"metadata") => Some(METADATA),
+            Call::Allocate | Call::List if is_text(word, b"raw") => Some(RAW),
+            Call::List if is_text(word, b"large") => Some(LARGE),
             _ => None,
         }
     }

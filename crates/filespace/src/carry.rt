@@ -1,6 +1,7 @@
 // What a run carries from line to line.
-ghost use Rattle.std.specs.Prelude.{◌≡◌, ◌≤◌};
-ghost use Rattle.filespace.specs.Lent.{table_words};
+ghost use Rattle.std.specs.Prelude.{◌≡◌, ◌≤◌, Some};
+ghost use Rattle.std.specs.Option.{unwrap_or};
+ghost use Rattle.filespace.specs.Lent.{line_bytes, table_words};
 
 use space::Space;
 use std::io::Stdout;
@@ -13,10 +14,11 @@ pub struct Run {
     pub space: Space,
     pub used: usize,
     pub summary: Summary,
-    // The number of the line, and how many bytes it has so far, of which those are kept that a line may have.
+    // The number of the line, and how many bytes it has so far; none, where it has more than a line may have.
     pub line: u64,
-    pub filled: usize,
+    pub filled: Option<usize>,
     ghost lent: { used ≤ table_words },
+    ghost kept: { unwrap_or filled 0 ≤ line_bytes },
 }
 
 impl Run {
@@ -33,15 +35,15 @@ impl Run {
             used: 0,
             summary: totals::no_totals(),
             line: 1,
-            filled: 0,
+            filled: Some(0),
         }
     }
 
     pub fn next_line(mut self) -> Run
-        ensures { (result.used ≡ self.used) × (result.filled ≡ 0) }
+        ensures { (result.used ≡ self.used) × (result.filled ≡ Some 0) }
     {
         self.line = self.line.wrapping_add(1);
-        self.filled = 0;
+        self.filled = Some(0);
         self
     }
 

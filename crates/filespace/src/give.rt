@@ -20,9 +20,10 @@ use totals::Summary;
 // An opening is answered, and the next call gets what it left.
 fn told_opened(run: Run, used: usize, r: On<Opened>) -> Run
     requires { used ≤ table_words }
+    ensures { result.used ≡ used }
 {
     let done = r.answered;
-    report::told(run.stdout, done);
+    report::answered(run.stdout, done);
     run.lent(done.space, used).after(done.space, r.summary)
 }
 
@@ -74,18 +75,22 @@ fn change_of(args: &[u64; TABLE_WORDS]) -> Change {
     }
 }
 
-fn allocate(run: Run, args: &[u64; TABLE_WORDS], table: &mut [u64]) -> Run {
+fn allocate(run: Run, args: &[u64; TABLE_WORDS], table: &mut [u64]) -> Run
+    ensures { result.used ≡ run.used }
+{
     let request = Request {
         code: args[0],
         size: args[1],
     };
     let r = own_summary::allocate(run.space, table, run.summary, request);
     let done = r.answered;
-    report::placed(run.stdout, done);
+    report::allocated(run.stdout, done);
     run.after(done.space, r.summary)
 }
 
-fn release(run: Run, args: &[u64; TABLE_WORDS], table: &mut [u64]) -> Run {
+fn release(run: Run, args: &[u64; TABLE_WORDS], table: &mut [u64]) -> Run
+    ensures { result.used ≡ run.used }
+{
     let named = Named {
         address: args[0],
         size: args[1],
@@ -97,9 +102,11 @@ fn release(run: Run, args: &[u64; TABLE_WORDS], table: &mut [u64]) -> Run {
 }
 
 // A call is answered, and the next one gets what it left.
-fn told<T: Copy, E: Refusal>(run: Run, r: On<Answered<T, E>>) -> Run {
+fn told<T: Copy, E: Refusal>(run: Run, r: On<Answered<T, E>>) -> Run
+    ensures { result.used ≡ run.used }
+{
     let done = r.answered;
-    report::told(run.stdout, done);
+    report::answered(run.stdout, done);
     run.after(done.space, r.summary)
 }
 
@@ -109,7 +116,9 @@ pub fn change(
     call: Call,
     args: &[u64; TABLE_WORDS],
     table: &mut [u64; TABLE_WORDS],
-) -> Run {
+) -> Run
+    ensures { result.used ≡ run.used }
+{
     let used = run.used;
     let table = &mut table[..used];
     let given = run.summary;

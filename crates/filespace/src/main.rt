@@ -35,33 +35,40 @@ const NEWLINE: u8 = b'\n';
 
 // The line is whole: it is answered up to its comment, and the next one starts.
 fn end_line(run: Run, line: &[u8; LINE], table: &mut [u64; TABLE_WORDS]) -> Run {
-    let Some(line) = line.get(..run.filled) else {
-        report::wrong(run.stdout, run.line, Wrong::TooLong);
+    let Some(filled) = run.filled else {
+        report::fault(run.stdout, run.line, Wrong::TooLong);
         return run.next_line();
     };
+    let line = &line[..filled];
     let end = comment_at(line);
     answer::answer(run, &line[..end], table).next_line()
 }
 
-// One byte more of the line. What is longer than a line may be is counted, and not kept.
-fn feed(run: Run, byte: u8, line: &mut [u8; LINE], table: &mut [u64; TABLE_WORDS]) -> Run {
-    if byte == NEWLINE {
-        return end_line(run, line, table);
-    }
-    let filled = run.filled;
-    if filled < LINE {
-        line[filled] = byte;
-    }
-    let mut next = run;
-    next.filled = filled.saturating_add(1);
-    next
+// More bytes of the line. What is longer than a line may be is not kept.
+fn keep(mut run: Run, part: &[u8], line: &mut [u8; LINE]) -> Run {
+    run.filled = match run.filled {
+        Some(filled) if part.len() <= LINE - filled => {
+            line[filled..filled + part.len()].copy_from_slice(part);
+            Some(filled + part.len())
+        }
+        _ => None,
+    };
+    run
 }
 
-// The bytes that were read, one by one.
+// The next bytes of a line, up to its end or to that of what was read.
+fn feed(run: Run, part: &[u8], line: &mut [u8; LINE], table: &mut [u64; TABLE_WORDS]) -> Run {
+    match part.split_last() {
+        Some((&NEWLINE, last)) => end_line(keep(run, last, line), line, table),
+        _ => keep(run, part, line),
+    }
+}
+
+// The bytes that were read, line by line: a run is carried from line to line, since to move it at each byte took ten times as long.
 fn feed_all(run: Run, text: &[u8], line: &mut [u8; LINE], table: &mut [u64; TABLE_WORDS]) -> Run {
     let mut next = run;
-    for byte in text {
-        next = feed(next, *byte, line, table);
+    for part in text.split_inclusive(|byte| *byte == NEWLINE) {
+        next = feed(next, part, line, table);
     }
     next
 }

@@ -252,13 +252,12 @@ round_trip = record { write_read = trip_done; write_rest = trip_rest; read_write
 
 -- ---- uniqueness
 
-module _ (b : List ℕ) (r s : Result Fields Refusal) (x : ReadRow b (read_said r).refusal (read_said r).fields)
-    (y : ReadRow b (read_said s).refusal (read_said s).fields) where
-  one_outcome : read_said r ≡ read_said s
-  one_outcome = row_reading b (read_said r) x ∙ sym (row_reading b (read_said s) y)
+one_outcome : (b : List ℕ) (o p : ReadOutcome) → ReadRow b o.refusal o.fields → ReadRow b p.refusal p.fields → o ≡ p
+one_outcome b o p x y = row_reading b o x ∙ sym (row_reading b p y)
 
-  one_read : r ≡ s
-  one_read = said r s one_outcome
+one_read : (b : List ℕ) (r s : Result Fields Refusal) → ReadRow b (read_said r).refusal (read_said r).fields
+    → ReadRow b (read_said s).refusal (read_said s).fields → r ≡ s
+one_read b r s x y = said r s (one_outcome b (read_said r) (read_said s) x y)
 
 one_write : (f : Fields) (b : List ℕ) (a z : Result Unit Refusal) (c d : List ℕ) → Held f → Bytes b → Bytes c → Bytes d
     → WriteRow f b (number_of a) c → WriteRow f b (number_of z) d → (a ≡ z) × (c ≡ d)
@@ -269,6 +268,7 @@ one_write f b a z c d h j k l x y =
 pub one_meaning : OneMeaning
 one_meaning =
     record {
+      outcome = one_outcome;
       read = one_read;
       rest = λ b c d x y. row_following b c x ∙ sym (row_following b d y);
       write = one_write;

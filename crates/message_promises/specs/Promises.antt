@@ -125,6 +125,7 @@ pub record RoundTrip : Type 0 where
   pub read_held : (b : List ℕ) → Bytes b → Held (reading b).fields
 
 pub record OneMeaning : Type 0 where
+  pub outcome : (b : List ℕ) (o p : ReadOutcome) → ReadRow b o.refusal o.fields → ReadRow b p.refusal p.fields → o ≡ p
   pub read : (b : List ℕ) (r s : Result Fields Refusal) → ReadRow b (read_said r).refusal (read_said r).fields
       → ReadRow b (read_said s).refusal (read_said s).fields → r ≡ s
   pub rest : (b c d : List ℕ) → RestRow b c → RestRow b d → c ≡ d

@@ -6,6 +6,7 @@ use crate::tell::{agree, item};
 use figures::text::lay;
 use message::Fields;
 pub use message_fields::no_fields;
+use script::words::is_text;
 use show::text::say;
 use std::io::Stdout;
 
@@ -146,7 +147,7 @@ pub fn reads(stdout: Stdout, bytes: &[u8], number: u64, fields: Fields, follows:
 
 // Whether a block has the bytes of another.
 pub fn same_block(stdout: Stdout, expected: &[u8; BLOCK], found: &[u8; BLOCK]) -> bool {
-    if found == expected {
+    if is_text(found, expected) {
         return true;
     }
     say(stdout, b"found other bytes in the block\n");

@@ -39,7 +39,7 @@ module _ (P : ℕ) (k : Class) (e z m : ℕ) (w : List ℕ) (j n : ℕ) where
   room_none l = ap (room_behindb P k e z m) (entries_none w n j l)
 
 module _ (P M e m : ℕ) (w : List ℕ) (j n : ℕ) where
-  grows_not : j < n → grows_beyondb P M e m (entries w j (n - j)) ≡ false
+  pub grows_not : j < n → grows_beyondb P M e m (entries w j (n - j)) ≡ false
   unfolding grows_beyondb
   grows_not l = rw (entries_next w n j l)
 
@@ -58,12 +58,6 @@ module _ (w : List ℕ) where
 
   pub room_at_end : (P : ℕ) (k : Class) (e z m : ℕ) → count_in w ≤ 0 → room_behindb P k e z m (entries_in w) ≡ room_behindb P k e z m []
   room_at_end P k e z m l = ap (room_behindb P k e z m) all ∙ room_none P k e z m w 0 (count_in w) l
-
-  pub grows_before : (P M e m : ℕ) → 0 < count_in w → grows_beyondb P M e m (entries_in w) ≡ false
-  grows_before P M e m l = ap (grows_beyondb P M e m) all ∙ grows_not P M e m w 0 (count_in w) l
-
-  pub grows_at_end : (P M e m : ℕ) → count_in w ≤ 0 → grows_beyondb P M e m (entries_in w) ≡ passesb P M e m
-  grows_at_end P M e m l = ap (grows_beyondb P M e m) all ∙ grows_last P M e m w 0 (count_in w) l
 
 -- where there is room in an entry it has the bytes
 small_bytes : (P e z m : ℕ) (y : Piece) → small_roomb P e z m (y ∷ []) ≡ true → m ≤ y.size

@@ -2,8 +2,8 @@
 // 2^64 - 1 is a legal question.
 #![tactic(auto)]
 
-ghost use Rattle.std.specs.Prelude.{◌≡◌, [], ◌∷◌, ◌<◌};
-ghost use Rattle.pieces.specs.Words.{entries_in};
+ghost use Rattle.std.specs.Prelude.{◌≡◌, List, [], ◌∷◌, ℕ, ◌-◌, ◌<◌};
+ghost use Rattle.pieces.specs.Words.{entries, entries_in};
 ghost use Rattle.room.specs.Room.{small_roomb, large_roomb, room_behindb, passesb, grows_beyondb, GrowFits, remainsb};
 
 use pieces::{Class, Piece};
@@ -66,12 +66,12 @@ pub fn passes_limit(p: u64, limit: u64, e: u64, m: u64) -> bool
     limit - e < m || limit < pages::round_up(p, e + m)
 }
 
-// Whether no entry stands behind a piece that ends at e, and the file would pass its limit.
-pub fn grows_beyond(p: u64, limit: u64, e: u64, m: u64, behind: &[u64]) -> bool
+// Whether no entry j of n stands behind a piece that ends at e, and the file would pass its limit.
+pub fn grows_beyond(p: u64, limit: u64, e: u64, m: u64, j: usize, n: usize) -> bool
     requires { GrowFits p limit e }
-    ensures { result ≡ grows_beyondb p limit e m (entries_in behind.now) }
+    ensures { (w : List ℕ) → result ≡ grows_beyondb p limit e m (entries w j (n - j)) }
 {
-    pieces::count_in(behind) == 0 && passes_limit(p, limit, e, m)
+    n <= j && passes_limit(p, limit, e, m)
 }
 
 // Whether enough remains of a piece of z bytes without k.

@@ -1,2 +1,3 @@
 -- The laws that the proofs of `say` cite.
 pub mod MapLaws
+pub mod ShownLaws

@@ -1,2 +1,3 @@
--- What the contracts of `say` cite: only what keeps it safe.
+-- What the contracts of `say` cite: what keeps it safe (Rows), and what `Display` writes of words and of bytes (Shown).
 pub mod Rows
+pub mod Shown

@@ -1,5 +1,6 @@
 // The forms of an answer.
-use space::answers::{Allocated, Answered, DONE, Refusal, number_of};
+use space::Space;
+use space::answers::{Allocated, Answered, DONE, NO_ADDRESS, Refusal, number_of};
 use std::fmt;
 use std::io::Stdout;
 
@@ -16,27 +17,44 @@ impl fmt::Display for Verdict {
     }
 }
 
-// What is wrong with a line.
-pub fn wrong(stdout: Stdout, line: u64, what: impl fmt::Display + Drop) {
+// What is wrong with a line, as bytes that are printed as they stand.
+pub fn wrong(stdout: Stdout, line: u64, what: &[u8]) {
+    let _ = print!(stdout; "line {line}: ");
+    let _ = stdout.write_all(what);
+    let _ = println!(stdout);
+}
+
+// What is wrong with a line, as a value that says it.
+pub fn fault(stdout: Stdout, line: u64, what: impl fmt::Display + Drop) {
     let _ = println!(stdout; "line {line}: {what}");
 }
 
-// The address at which a piece was placed, or the refusal. Then the state that the call handed back.
-pub fn placed(stdout: Stdout, done: Allocated) {
-    let Ok(address) = done.answer else {
-        told(stdout, done);
+// The address at which a piece was placed, where the number is that of an accepted call; else the refusal. Then the state that the call handed back.
+pub fn placed(stdout: Stdout, space: Space, number: u64, address: u64) {
+    if number == DONE {
+        let _ = println!(stdout; "at {address}; end {}; {} entries", space.end, space.count);
         return;
-    };
-    let space = done.space;
-    let _ = println!(stdout; "at {address}; end {}; {} entries", space.end, space.count);
+    }
+    told(stdout, space, number);
 }
 
-pub fn told<T: Copy, E: Refusal>(stdout: Stdout, done: Answered<T, E>) {
-    let space = done.space;
+// Done or refused, by the number, and the state.
+pub fn told(stdout: Stdout, space: Space, number: u64) {
     let _ = println!(stdout;
         "{}; end {}; {} entries",
-        Verdict(number_of(done.answer)),
+        Verdict(number),
         space.end,
         space.count
     );
+}
+
+// What an allocation answers.
+pub fn allocated(stdout: Stdout, done: Allocated) {
+    let address = done.answer.unwrap_or(NO_ADDRESS);
+    placed(stdout, done.space, number_of(done.answer), address);
+}
+
+// What any other call answers.
+pub fn answered<T: Copy, E: Refusal>(stdout: Stdout, done: Answered<T, E>) {
+    told(stdout, done.space, number_of(done.answer));
 }

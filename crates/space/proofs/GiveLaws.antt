@@ -7,7 +7,7 @@
 --   released_found, resized_found           which is its half, of the piece that was found
 --   settle_fits, grow_fits, found_limit     the sums of a sound table stay within the limit
 --   released_decided, resized_decided, kept_size     what is decided on the piece that was found
---   room_behind, grows_behind               the tests of what stands behind the piece, as the code has its words
+--   room_behind                             the test of what stands behind the piece, as the code has its words
 --   longer_no_room, -beyond, -bytes, shorter_too_far, -bytes     its new size, test by test
 --   longer_fits, shorter_fits, new_size_fits         and the sums of that
 --   refuses_same, release_same, resize_same          a decision leads to what is equal to its outcome
@@ -224,10 +224,6 @@ module _ (sp : Space) (w : List ℕ) (i : ℕ) (x : Piece) (f : FoundIn sp w i x
     pub room_behind : (k : Class) (m : ℕ) {r : Bool} → r ≡ room_behindb sp.page k (behind x) x.size m (entries_in u)
         → r ≡ room_behindb sp.page k (behind x) x.size m (entries_behind sp w i)
     room_behind k m h = h ∙ ap (room_behindb sp.page k (behind x) x.size m) behind_is
-
-    pub grows_behind : (m : ℕ) {r : Bool} → r ≡ grows_beyondb sp.page sp.limit (behind x) m (entries_in u)
-        → r ≡ grows_beyondb sp.page sp.limit (behind x) m (entries_behind sp w i)
-    grows_behind m h = h ∙ ap (grows_beyondb sp.page sp.limit (behind x) m) behind_is
 
   pub new_size_way : (m : ℕ) {way way' : Way} → way ≡ way' → new_size sp x.address x.size way m w i x ≡ new_size sp x.address x.size way' m w i x
   new_size_way m e = ap (λ (v : Way). new_size sp x.address x.size v m w i x) e

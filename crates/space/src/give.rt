@@ -135,11 +135,13 @@ impl Space {
         match way {
             Way::Longer => {
                 let e = piece.address + piece.size;
-                let behind = pieces::words_of(table, i + 1, self.count as usize);
+                let next = i + 1;
+                let n = self.count as usize;
+                let behind = pieces::words_of(table, next, n);
                 if !room::has_room(self.page, class, e, piece.size, by, behind) {
                     return Err(NotResized::NoRoomBehind);
                 }
-                if room::grows_beyond(self.page, self.limit, e, by, behind) {
+                if room::grows_beyond(self.page, self.limit, e, by, next, n) {
                     return Err(NotResized::BeyondLimit);
                 }
                 Ok(piece.size + by)

@@ -3,7 +3,7 @@
 --   Counted w i S B L D       the four lists are those of the first i entries of the words w
 --
 -- In this order: where the count starts; the whole; what fits; one entry more, a free section or a live piece. Then which entries can be counted:
--- a part of a sound table, and all of one (countable_part, countable_sound).
+-- a part of those that can (part_countable), a part of a sound table, and all of one (countable_part, countable_sound).
 --
 -- Not here: laws of the four lists (TallyLaws).
 use Prim.Native.Nat.{ℕ, ◌+◌, ◌-◌, ◌*◌, ◌^◌, ◌≤◌, ◌<◌, max}
@@ -113,6 +113,21 @@ tiles_bytes : {E a : ℕ} {es : List Piece} → Tiles E a es → a + bytes es �
 unfolding bytes
 tiles_bytes (tiled e) = omega arith
 tiles_bytes (tile t) = omega (arith, tiles_bytes t)
+
+-- a part of what can be counted can be counted
+pub part_countable : {v : List ℕ} → Countable v → (i j : ℕ) → i ≤ j → j ≤ count_in v → Countable (words_of v i j)
+part_countable {v} c i j low high =
+    let n = count_in v in
+    let there : j * entry_words ≤ length v = omega arith in
+    let parts = ap bytes (entries_parts v i j n low high) in
+    let front = bytes_append (entries v 0 i) (entries v i (j - i) ++ entries v j (n - j)) in
+    let back = bytes_append (entries v i (j - i)) (entries v j (n - j)) in
+    let many : count_in (words_of v i j) ≡ j - i = part_count v i j low there in
+    record {
+      few = omega (arith, many, c.few);
+      kinds = λ k lt. rw (part_kind v i ((j - i) * entry_words) k (omega (arith, many))) (c.kinds (i + k) (omega (arith, many)));
+      fits = rw (part_entries v i j low there) (omega (arith, c.fits, parts, front, back));
+    }
 
 pub countable_part : {P M E n : ℕ} {w : List ℕ} → Sound P M E n w → (i j : ℕ) → i ≤ j → j ≤ n → Countable (words_of w i j)
 countable_part {E = E} {n = n} {w = w} s i j low high =

@@ -30,11 +30,17 @@ pub struct Summary {
     pub moved: i64,
 }
 
-// Which decade counts a section of so many bytes.
+// Which decade counts a section of so many bytes. Most sections are less than a page, so the first edges are tested one by one: with `ilog10` for each the
+// walk over 1,000 sections took twice as long.
 pub fn decade_of(size: u64) -> usize
     ensures { result ≡ decade_of size }
 {
-    (size.max(1).ilog10() as usize).min(LAST_DECADE)
+    match size {
+        0..=9 => 0,
+        10..=99 => 1,
+        100..=999 => 2,
+        _ => (size.ilog10() as usize).min(LAST_DECADE),
+    }
 }
 
 // The summary of the entries, afresh: no call has moved the end.

@@ -10,7 +10,6 @@ ghost use Rattle.walk.specs.Walk.{behind_free_large, small_followsb, live_largeb
 ghost use Rattle.walk.specs.Walk.{left_behind, walk_behind, walk_at, Walked, step_if, small_entryb, large_entryb, stepped};
 
 use pieces::{FREE_LARGE, LIVE_LARGE, Words};
-use std::cmp::Ordering;
 
 // Where the walk has come: behind an entry that ends at `at`, with `left` bytes to the first border above it. Inside a page the state is the
 // kind of that entry; at a border it is one of the two numbers below, since there only a free large entry says anything of the next one.
@@ -61,10 +60,12 @@ fn left_behind(p: u64, left: u64, size: u64) -> u64
     requires { 0 < p }
     ensures { result ≡ left_behind p left size }
 {
-    match size.cmp(&left) {
-        Ordering::Less => left - size,
-        Ordering::Equal => p,
-        Ordering::Greater => p - (size - left) % p,
+    if size < left {
+        left - size
+    } else if size == left {
+        p
+    } else {
+        p - (size - left) % p
     }
 }
 

@@ -1,5 +1,5 @@
-// Words, numbers of 64 bits, in bytes, the lowest byte first. The standard library takes their eight bytes one after the other, and not in a loop as
-// `little` does, so that the compiler makes one load or store of them.
+// Words, numbers of 64 bits, in bytes, the lowest byte first. The standard library makes a word of eight bytes, and eight bytes of a word, one after the
+// other, and not in a loop as `little` does, so that the compiler makes one load or store of them.
 #![tactic(auto)]
 
 ghost use Rattle.std.specs.Prelude.{◌≡◌, ◌*◌, ◌≤◌, length};
@@ -16,12 +16,15 @@ pub fn get_word(b: &[u8]) -> u64
     u64::from_le_bytes([b[0], b[1], b[2], b[3], b[4], b[5], b[6], b[7]])
 }
 
-// Fills eight bytes with the word.
+// Fills eight bytes with the word, one by one: `copy_from_slice` takes twice the instructions.
 pub fn put_word(word: u64, out: &mut [u8])
     requires { length out.old ≡ word_bytes }
     ensures { out.new ≡ bytes_of word_bytes word }
 {
-    out.copy_from_slice(&word.to_le_bytes());
+    let bytes = word.to_le_bytes();
+    for k in 0..WORD_BYTES {
+        out[k] = bytes[k];
+    }
 }
 
 // Fills `words` with those that the bytes are, one behind the other: by twos, then the last of an odd number. Both of two are loaded before the

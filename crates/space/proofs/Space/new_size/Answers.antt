@@ -3,7 +3,7 @@ use mathlib.Core.Path.{sym, ◌∙◌}
 use native.Mathlib.Omega.{arith}
 use Rattle.space.proofs.GiveLaws.{found_lt, found_limit, grow_fits, longer_no_room, longer_beyond, longer_bytes, longer_fits}
 use Rattle.space.proofs.GiveLaws.{shorter_too_far, shorter_bytes, shorter_fits, new_size_way}
-use Rattle.space.proofs.GiveLaws.{room_behind, grows_behind}
+use Rattle.space.proofs.GiveLaws.{room_behind}
 use Rattle.table.proofs.Theorems.{count_fits}
 use Rattle.space.proofs.Space.new_size.Goals as goal
 
@@ -12,8 +12,8 @@ overflow_add-e c =
     let f = c.requires in
     omega (arith, found_limit _ _ _ _ f, f.sound.ranges.limit_largest)
 
-pub overflow_add-i : goal.overflow_add-i
-overflow_add-i c = omega (arith, found_lt _ _ _ _ c.requires)
+pub overflow_add-next : goal.overflow_add-next
+overflow_add-next c = omega (arith, found_lt _ _ _ _ c.requires)
 
 pub words_of-behind-requires : goal.words_of-behind-requires
 words_of-behind-requires c = (omega (arith, found_lt _ _ _ _ c.requires), count_fits c.requires.sound.ranges)
@@ -32,7 +32,7 @@ returns-then-grows_beyond c =
     let f = c.requires in
     let class = c.class-class.ensures in
     let room = (room_behind _ _ _ _ c.requires c.words_of-behind.ensures _ _ c.has_room.ensures) in
-    let law = longer_beyond _ _ _ _ f _ _ class _ room c.if-not-has_room.false _ (grows_behind _ _ _ _ c.requires c.words_of-behind.ensures _ c.grows_beyond.ensures) c.if-grows_beyond.true in
+    let law = longer_beyond _ _ _ _ f _ _ class _ room c.if-not-has_room.false _ (c.grows_beyond.ensures _) c.if-grows_beyond.true in
     sym (new_size_way _ _ _ _ f _ c.in-Longer.is ∙ law)
 
 pub overflow_add-result : goal.overflow_add-result
@@ -40,7 +40,7 @@ overflow_add-result c =
     let f = c.requires in
     let class = c.class-class.ensures in
     let room = (room_behind _ _ _ _ c.requires c.words_of-behind.ensures _ _ c.has_room.ensures) in
-    let grows = grows_behind _ _ _ _ c.requires c.words_of-behind.ensures _ c.grows_beyond.ensures in
+    let grows = c.grows_beyond.ensures _ in
     let ends = longer_fits _ _ _ _ f _ _ class _ room c.if-not-has_room.false _ grows c.if-grows_beyond.false in
     omega (arith, ends, f.sound.ranges.limit_largest)
 
@@ -64,7 +64,7 @@ returns-else-grows_beyond c =
     let f = c.requires in
     let class = c.class-class.ensures in
     let room = (room_behind _ _ _ _ c.requires c.words_of-behind.ensures _ _ c.has_room.ensures) in
-    let grows = grows_behind _ _ _ _ c.requires c.words_of-behind.ensures _ c.grows_beyond.ensures in
+    let grows = c.grows_beyond.ensures _ in
     let law = longer_bytes _ _ _ _ f _ _ class _ room c.if-not-has_room.false _ grows c.if-grows_beyond.false in
     sym (new_size_way _ _ _ _ f _ c.in-Longer.is ∙ law)
 
