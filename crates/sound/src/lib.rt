@@ -46,7 +46,10 @@ pub fn in_ranges(page: u64, limit: u64, end: u64, count: u64, len: usize) -> boo
         && count <= (len / ENTRY_WORDS) as u64
 }
 
-// The entries: every kind is one, each entry keeps the rules behind the one before it, and the last ends at the end.
+// The entries: every kind is one, each entry keeps the rules behind the one before it, and the last ends at the end. The walk is a function of its own
+// in each program: laid out around the test of the zero words its jumps were long, and more of those that a test executes lay at or over a border of
+// 32 bytes, where some processors are slow (docs/BENCH.md).
+#[inline(never)]
 pub fn entries_hold(page: u64, end: u64, n: usize, table: &[u64]) -> bool
     requires { WalkFits page end n table.now }
     ensures { result ≡ (kindsb table.now 0 n && chainb page end (Live Large) 0 (entries table.now 0 n)) }
@@ -84,7 +87,9 @@ pub fn zeros_from(from: usize, table: &[u64]) -> bool
     bits_of(rest) == 0
 }
 
-// Whether the state and the table are sound together.
+// Whether the state and the table are sound together. Without the walk it is short enough to be laid out at each call that tests a table; it is to stand
+// once in a program.
+#[inline(never)]
 #[tactic(auto, unfolding(table::specs::Local::localb))]
 pub fn is_sound(page: u64, limit: u64, end: u64, count: u64, table: &[u64]) -> bool
     ensures { result ≡ localb page limit end count table.now }
