@@ -1,5 +1,5 @@
 // Words of a lent table moved or cleared in place. A move goes by blocks: `copy_within` alone moves one word at a time, and with it a call at 100 entries
-// took 0.70 us, 0.71 times plain C, where the goal is 0.65 (docs/BENCH.md); by blocks it takes 0.61, 0.63 times. Down and up differ in the order
+// took 0.70 us, 0.71 times plain C, where the goal is 0.65 (docs/BENCH.md); by blocks it took 0.61, 0.63 times. Down and up differ in the order
 // of the blocks, which keeps what is not yet read: one function of both would hold the two loops all the same.
 #![tactic(auto)]
 

@@ -47,8 +47,8 @@ pub fn in_ranges(page: u64, limit: u64, end: u64, count: u64, len: usize) -> boo
 }
 
 // The entries: every kind is one, each entry keeps the rules behind the one before it, and the last ends at the end. The walk is a function of its own
-// in each program: laid out around the test of the zero words its jumps were long, and more of those that a test executes lay at or over a border of
-// 32 bytes, where some processors are slow (docs/BENCH.md).
+// in each program: as a part of `is_sound` it had its way out so far off that the jumps there were long, and more of the jumps that a test executes lay
+// at or over a border of 32 bytes, where some processors are slow (docs/BENCH.md).
 #[inline(never)]
 pub fn entries_hold(page: u64, end: u64, n: usize, table: &[u64]) -> bool
     requires { WalkFits page end n table.now }
